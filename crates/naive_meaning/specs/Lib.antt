@@ -1,0 +1,4 @@
+pub mod Expressions
+pub mod Bodies
+pub mod Contexts
+pub mod Turns
