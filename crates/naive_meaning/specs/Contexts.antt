@@ -1,29 +1,10 @@
--- A context as plain data, and how the effects of a body change it.
-use Rattle.std.specs.Prelude.{◌≡◌, ℕ, ◌+◌, List, [], ◌∷◌, ◌++◌, Bool, true, false, not, ◌==◌, if◌then◌else◌, filter}
+-- How the effects of a body change a context.
+use Rattle.std.specs.Prelude.{ℕ, ◌+◌, List, [], ◌∷◌, ◌++◌, Bool, false, not, ◌==◌, if◌then◌else◌, filter}
 use Rattle.std.specs.List.{list_any}
-use Rattle.naive_meaning.specs.declared.entry.Line.{Line}
 use Rattle.naive_meaning.specs.declared.entry.Line.TheVariants as line
+use Rattle.naive_meaning.specs.declared.context.Listener.{Listener}
+use Rattle.naive_meaning.specs.declared.context.Context.{Context}
 use Rattle.naive_meaning.specs.Bodies.{Effect, Print, Listen}
-
--- a running monitor: its number among the instances of its context, from 1, and its monitor
-pub record Instance : Type 0 where
-  pub number : ℕ
-  pub monitor : ℕ
-
--- a live listener: its number among the listeners of its context, from 1, its instance and its site
-pub record Listener : Type 0 where
-  pub birth : ℕ
-  pub instance : ℕ
-  pub site : ℕ
-
--- a context: how many listeners and instances it has made, those that live, its lines, and whether it is spent
-pub record Context : Type 0 where
-  pub births : ℕ
-  pub begun : ℕ
-  pub instances : List Instance
-  pub listeners : List Listener
-  pub lines : List Line
-  pub spent : Bool
 
 -- before it has handled anything
 abbrev pub fresh : Context

@@ -1,7 +1,6 @@
 -- How a context handles an entry.
-use Rattle.std.specs.Prelude.{◌≡◌, ℕ, ◌+◌, ◌^◌, List, [], ◌∷◌, ◌++◌, Bool, true, false, ◌==◌, nat_lt, if◌then◌else◌, Option, Some, None, slice_get}
+use Rattle.std.specs.Prelude.{ℕ, ◌+◌, ◌^◌, List, [], ◌∷◌, ◌++◌, Bool, true, false, ◌==◌, nat_lt, if◌then◌else◌, Option, Some, None, slice_get}
 use Rattle.std.specs.List.{list_any}
-use Rattle.std.specs.Option.{option_map}
 use Rattle.epl_values.specs.declared.value.Value.{Value, Value-F, out-Value}
 use Rattle.epl_values.specs.declared.value.Value.TheOpen as layer
 use Rattle.epl_values.specs.declared.value.Pair.{Pair}
@@ -15,7 +14,9 @@ use Rattle.naive_meaning.specs.declared.program.Term.TheVariants.{All}
 use Rattle.naive_meaning.specs.declared.entry.Cargo.{Cargo}
 use Rattle.naive_meaning.specs.declared.entry.Cargo.TheVariants as cargo
 use Rattle.naive_meaning.specs.Bodies.{effects_of}
-use Rattle.naive_meaning.specs.Contexts.{Context, Instance, Listener, apply_all, settled}
+use Rattle.naive_meaning.specs.declared.context.Listener.{Listener}
+use Rattle.naive_meaning.specs.declared.context.Context.{Context}
+use Rattle.naive_meaning.specs.Contexts.{apply_all, settled}
 
 -- the event type of a value, where it is an event
 abbrev pub type_in : Value-F Value Pair → Option ℕ

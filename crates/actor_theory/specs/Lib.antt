@@ -1,0 +1,12 @@
+pub mod Language
+pub mod World
+pub mod Faithful
+pub mod Holds
+pub mod Order
+pub mod Potential
+pub mod Rounding
+pub mod Caused
+pub mod Joined
+pub mod Kept
+pub mod Replay
+pub mod Machine

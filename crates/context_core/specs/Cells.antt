@@ -1,0 +1,22 @@
+-- Cells, and what they answer.
+use Rattle.std.specs.Prelude.{List, [], Bool, true, false}
+use Rattle.actor_theory.specs.declared.entry.Entry.{Entry}
+use Rattle.actor_theory.specs.Machine.{Cell}
+use Rattle.naive_meaning.specs.declared.context.Context.{Context}
+use Rattle.naive_meaning.specs.declared.entry.Cargo.{Cargo}
+use Rattle.naive_meaning.specs.declared.record.ContextRecord.{ContextRecord}
+use Rattle.naive_meaning.specs.Contexts.{fresh}
+use Rattle.context_core.specs.declared.cell.Handling.{Handling}
+use Rattle.context_core.specs.declared.cell.Handling.TheVariants.{Quiet, Spent}
+
+-- a context that has handled nothing
+abbrev pub fresh_cell : Cell Context Cargo
+fresh_cell = record { state = fresh; number = 0; log = [] }
+
+abbrev pub is_spent : Handling → Bool
+is_spent Quiet = false
+is_spent Spent = true
+
+-- the record of a cell, with what is left for it
+abbrev pub record_of : Cell Context Cargo → List (Entry Cargo) → ContextRecord
+record_of c left = record { lines = c.state.lines; handled = c.log; left = left; spent = c.state.spent }

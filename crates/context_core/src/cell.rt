@@ -1,0 +1,134 @@
+ghost use Rattle.std.specs.Prelude.{◌≡◌, false, IfOk, OnOk};
+ghost use Rattle.actor_theory.specs.Machine.{cell_after};
+ghost use Rattle.naive_meaning.specs.Actors.{contexts_of};
+ghost use Rattle.naive_meaning.specs.Contexts.{fresh};
+ghost use Rattle.context_core.specs.Cells.{fresh_cell, record_of, is_spent};
+
+use crate::turn::handle;
+use epl_values::{List, Memory};
+use naive_meaning::{
+    Context, ContextRecord, Entries, Entry, Handled, HandledList, Instances, Lines, Listeners,
+    Program,
+};
+use std::alloc::Global;
+use std::marker::Model;
+
+/// A running context: what it is, the number of its last handling, and its log.
+#[derive(Drop)]
+pub struct Cell {
+    alloc: Global,
+    context: Context,
+    number: u64,
+    log: HandledList,
+}
+
+/// The cells of a run, by slot.
+pub type Cells = List<Cell>;
+
+impl Model for Cell {
+    ghost use Rattle.actor_theory.specs.Machine.{Cell as CellOf};
+    ghost use Rattle.naive_meaning.specs.declared.context.Context.{Context};
+    ghost use Rattle.naive_meaning.specs.declared.entry.Cargo.{Cargo};
+
+    ghost use Rattle.epl_values.specs.contracts.value.Value as value;
+    ghost use Rattle.std.specs.Coded.{codes};
+
+    ghost Value = { CellOf Context Cargo };
+
+    ghost coded = { Prim.hlevel (codes, value.the_row.coded) };
+
+    ghost view = { λ c. record { state = c.context; number = c.number; log = c.log } };
+}
+
+/// How a handling left the context.
+#[derive(Clone, Copy, Debug, PartialEq, Eq)]
+pub enum Handling {
+    /// It goes on.
+    Quiet,
+    /// It is spent, and handles nothing more.
+    Spent,
+}
+
+impl Cell {
+    /// A context that has handled nothing.
+    pub fn new(alloc: Global) -> Cell
+        ensures { result ≡ fresh_cell }
+    {
+        let context = Context {
+            births: 0,
+            begun: 0,
+            instances: Instances::new(alloc),
+            listeners: Listeners::new(alloc),
+            lines: Lines::new(alloc),
+            spent: false,
+        };
+        Cell {
+            alloc,
+            context,
+            number: 0,
+            log: HandledList::new(alloc),
+        }
+    }
+
+    /// Handles an entry: its state, its number and its log are then those of naive evaluation with this entry behind
+    /// the others. After want of memory nothing is said of it.
+    pub fn handle(&mut self, program: &Program, entry: Entry) -> Result<Handling, Memory>
+        requires { self.old.state.spent ≡ false }
+        ensures after { OnOk result (self.new ≡ cell_after (contexts_of program.now) self.old entry) }
+        ensures answer { IfOk result (λ answer. is_spent answer ≡ self.new.state.spent) }
+    {
+        // A stamp is below 2^63 in every run, so there is a next number.
+        let Some(number) = self.number.max(entry.stamp).checked_add(1) else {
+            return Err(Memory);
+        };
+        handle(self.alloc, &mut self.context, program, number, &entry.cargo)?;
+        self.number = number;
+        self.log.push(Handled { entry, number })?;
+        if self.context.spent {
+            return Ok(Handling::Spent);
+        }
+        Ok(Handling::Quiet)
+    }
+
+    /// What it has printed.
+    pub fn lines(&self) -> &Lines
+        ensures { result.now ≡ self.now.state.lines }
+    {
+        &self.context.lines
+    }
+
+    /// What it has handled.
+    pub fn log_of(&self) -> &HandledList
+        ensures { result.now ≡ self.now.log }
+    {
+        &self.log
+    }
+
+    /// The number of its last handling, 0 before the first.
+    pub fn number(&self) -> u64
+        ensures { result ≡ self.now.number }
+    {
+        self.number
+    }
+
+    /// Whether it is spent.
+    pub fn spent(&self) -> bool
+        ensures { result ≡ self.now.state.spent }
+    {
+        self.context.spent
+    }
+
+    /// Its record, with what was sent to it and not handled.
+    pub fn into_record(self, left: Entries) -> ContextRecord
+        ensures { result ≡ record_of self left }
+    {
+        let Cell { context, log, .. } = self;
+        let spent = context.spent;
+        ContextRecord {
+            lines: context.lines,
+            handled: log,
+            left,
+            spent,
+        }
+    }
+}

@@ -1,0 +1,34 @@
+-- Records of runs: which are faithful to a program, its items and its settings, and which one a schedule makes.
+use Rattle.std.specs.Prelude.{◌≡◌, ℕ, List, map, Option}
+use Rattle.actor_theory.specs.Kept as kept
+use Rattle.naive_meaning.specs.declared.program.Program.{Program}
+use Rattle.naive_meaning.specs.declared.entry.Cargo.{Cargo}
+use Rattle.naive_meaning.specs.declared.entry.Item.{Item}
+use Rattle.naive_meaning.specs.declared.entry.Line.{Line}
+use Rattle.naive_meaning.specs.declared.record.Settings.{Settings}
+use Rattle.naive_meaning.specs.declared.record.ContextRecord.{ContextRecord}
+use Rattle.naive_meaning.specs.declared.record.Record.{Record}
+use Rattle.naive_meaning.specs.declared.context.Context.{Context}
+use Rattle.naive_meaning.specs.Actors.{contexts_of, reader_of}
+
+-- what a record shows of a context besides its handlings: its lines
+abbrev pub shown : Context → List Line
+shown c = c.lines
+
+abbrev pub slot_kept : ContextRecord → kept.SlotKept (List Line) Cargo
+slot_kept c = record { shown = c.lines; handled = c.handled; left = c.left; spent = c.spent }
+
+abbrev pub kept_of : Record → kept.Kept (List Line) Cargo Item
+kept_of r = record { slots = map slot_kept r.contexts; steps = r.reader.steps; left = r.reader.left }
+
+-- a record is faithful: it has these settings, and each context's lines, numbers and mark are those of naive evaluation
+-- over its log, each send stands once in the log of its context or is left there, in each sender's order and after its
+-- cause, the items are all taken in order, boot comes first, and nothing is left but at spent contexts
+pub record IsFaithful (p : Program) (items : List Item) (settings : Settings) (r : Record) : Type 0 where
+  pub same_settings : r.settings ≡ settings
+  pub faithful : kept.IsFaithful settings.contexts (contexts_of p) (reader_of p) shown items (kept_of r)
+
+-- the record that boot, these picks, and rounds until one handles nothing make
+pub record IsScheduled (p : Program) (items : List Item) (settings : Settings) (picks : List (ℕ × Option ℕ)) (r : Record) : Type 0 where
+  pub same_settings : r.settings ≡ settings
+  pub scheduled : kept.IsScheduled settings.contexts (contexts_of p) (reader_of p) shown items picks (kept_of r)
