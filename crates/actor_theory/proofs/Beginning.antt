@@ -1,13 +1,13 @@
 -- The machine at the start, with the loads queued; the items come after boot.
-use Rattle.std.proofs.Common.{◌≡◌, ℕ, zero, suc, ◌+◌, ◌≤◌, ◌<◌, List, [], ◌∷◌, ◌++◌, length, Bool, true, false, ◌==◌, cond, Option, Some, None, refl, sym, ◌∙◌, ap, subst, arith, ◌⊎◌, inl, inr, map, slice_get, length-append, IfSome}
+use Rattle.std.proofs.Common.{◌≡◌, ℕ, zero, suc, ◌≤◌, ◌<◌, List, [], ◌∷◌, ◌++◌, length, Bool, true, false, ◌==◌, cond, Some, None, refl, sym, ◌∙◌, ap, subst, arith, ◌⊎◌, inl, inr, map, slice_get, length-append, IfSome}
 use Rattle.std.specs.List.{AllByRecursion}
-use Rattle.std.proofs.lemmas.Bool.{cases_lt, cases_eq, eq-eqb, ne_eqb}
+use Rattle.std.proofs.lemmas.Bool.{cases_lt}
 use Rattle.std.proofs.lemmas.Option.{slice_get_past}
 use Rattle.actor_theory.specs.declared.entry.Entry.{Entry}
-use Rattle.actor_theory.specs.Language.{Language, mail, loaded}
-use Rattle.actor_theory.specs.World.{World, own, start, given}
+use Rattle.actor_theory.specs.Language.{mail, loaded}
+use Rattle.actor_theory.specs.World.{own, start, given}
 use Rattle.actor_theory.specs.Joined.{Slots, Reader, joined, lifted, to_actors, slots_only}
-use Rattle.actor_theory.specs.Machine.{Cell, ReaderCell, cell_log, queue_in, queue_at, own_items, world_of, IsCellOf, IsReaderOf, Stand, delivered, fresh_cells, fresh_reader, empty_queues, loaded_queues}
+use Rattle.actor_theory.specs.Machine.{without_items, Cell, ReaderCell, cell_log, queue_at, world_of, IsCellOf, Stand, fresh_cells, fresh_reader, empty_queues, loaded_queues}
 use Rattle.actor_theory.proofs.Queues.{length-arrived, delivered-at, delivered-lifted, slots-actors}
 use Rattle.actor_theory.proofs.Machining.{world-same}
 use Rattle.actor_theory.proofs.Reading.{mail-none}
@@ -96,10 +96,7 @@ fresh-world {S} {R} {C} {I} contexts A B =
         ap (λ (es : List (Entry (C ⊎ I))). es ++ map lifted (queue_at (loaded_queues contexts B) k)) (no-items k (k == contexts)) ∙ delivered-lifted contexts contexts 0 (slots_only contexts B.loads) (empty_queues (suc contexts)) k (length-empty C (suc contexts))
         ∙ ap (λ q. map lifted q ++ mail contexts 0 k (to_actors contexts (slots_only contexts B.loads))) (empty-at C (suc contexts) k) ∙ ap (mail contexts 0 k) (slots-actors contexts B.loads)
 
--- the reader without its items
-abbrev pub without_items : {R C I : Type 0} → ReaderCell R C I → ReaderCell R C I
-without_items r = record { state = r.state; number = r.number; steps = r.steps; rest = [] }
-
+-- a reader stands without its items as with them
 pub without-stand : {S R C I : Type 0} (contexts : ℕ) (A : Slots S C) (B : Reader R C I) (cells : List (Cell S C)) (reader : ReaderCell R C I) (queued : List (List (Entry C))) → Stand contexts A B cells reader queued
     → Stand contexts A B cells (without_items reader) queued
 without-stand contexts A B cells reader queued h = record {

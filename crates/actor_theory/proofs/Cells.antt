@@ -1,5 +1,5 @@
 -- Cells stand at their logs.
-use Rattle.std.proofs.Common.{◌≡◌, ℕ, ◌+◌, ◌≤◌, ◌<◌, List, [], ◌∷◌, ◌++◌, Bool, true, false, not, ◌&&◌, nat_le, cond, Option, Some, None, refl, sym, ◌∙◌, ap, subst, max, arith, ◌⊎◌, inl, inr, map, length, slice_get, IfSome}
+use Rattle.std.proofs.Common.{◌≡◌, ℕ, ◌+◌, ◌<◌, List, [], ◌∷◌, ◌++◌, Bool, true, false, not, ◌&&◌, cond, Option, Some, None, refl, sym, ◌∙◌, ap, subst, max, arith, ◌⊎◌, inr, map, slice_get, IfSome}
 use Rattle.std.proofs.lemmas.Bool.{eq-eqb, ne_eqb, le-leb}
 use Rattle.std.proofs.lemmas.List.{map-append}
 use Rattle.actor_theory.specs.declared.entry.Entry.{Entry}
@@ -10,7 +10,7 @@ use Rattle.actor_theory.specs.Language.{Language, Moment, naive, number_after, n
 use Rattle.actor_theory.specs.World.{World, own, first_from, finds}
 use Rattle.actor_theory.specs.Joined.{Slots, Reader, joined, lifted, slot_after, reader_after, step_entry, step_number}
 use Rattle.actor_theory.specs.Kept.{entry_of, number_of}
-use Rattle.actor_theory.specs.Machine.{Cell, ReaderCell, cell_log, queue_in, queue_at, own_items, world_of, IsCellOf, IsReaderOf, Stand, cell_after, reader_after_entry, reader_after_item}
+use Rattle.actor_theory.specs.Machine.{Cell, ReaderCell, cell_log, queue_at, own_items, world_of, IsCellOf, IsReaderOf, Stand, cell_after, reader_after_entry, reader_after_item}
 use Rattle.actor_theory.proofs.Joining.{slot_moment, reader_moment, naive-slot, naive-reader}
 use Rattle.actor_theory.proofs.Keeping.{get-within}
 use Rattle.actor_theory.proofs.Queues.{lifted_found, first_from-lifted}

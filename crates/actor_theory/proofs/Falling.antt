@@ -119,9 +119,9 @@ part-handled L weight cost w d e rest k = go (k == d) refl
         rw (same, state) (omega arith)
     go false eq = let lists = total-append (cost k) (w.queue k) (reply L d k (naive L d (w.log d)) e) in omega arith
 
-pub handled-falls : {S C : Type 0} (L : Language S C) (weight : S → ℕ) (cost : ℕ → Entry C → ℕ) → IsMeasure L weight cost → (w : World C) (d s : ℕ) (e : Entry C) (rest : List (Entry C))
-    → finds L w d s ≡ Some (e, rest) → potential L weight cost (handled L w d e rest) < potential L weight cost w
-handled-falls L weight cost measure w d s e rest h =
+pub handled-falls : {S C : Type 0} (L : Language S C) (weight : S → ℕ) (cost : ℕ → Entry C → ℕ) (IsLog : ℕ → List (Entry C) → Type 0) → IsMeasure L IsLog weight cost → (w : World C) (d s : ℕ) (e : Entry C) (rest : List (Entry C))
+    → finds L w d s ≡ Some (e, rest) → IsLog d (w.log d ++ e ∷ []) → potential L weight cost (handled L w d e rest) < potential L weight cost w
+handled-falls L weight cost IsLog measure w d s e rest h is_log =
     let at = finds-some L w d s e rest h in
     let opened = open-parts L w d at.0 in
     let n : ℕ = suc L.contexts in
@@ -137,5 +137,5 @@ handled-falls L weight cost measure w d s e rest h =
     let here : kept d ≡ weight (next L m e).state + total (cost d) rest = rw (eq-eqb d d refl) refl in
     let paid = first_from-total (cost d) s (w.queue d) e rest at.1 in
     let sent = sum_to-sent cost n d (number_after m.number e) (L.sent m.state (number_after m.number e) e) in
-    let pays = measure.pays d (w.log d) e opened.0 opened.1 in
+    let pays = measure.pays d (w.log d) e opened.0 is_log opened.1 in
     omega arith

@@ -1,10 +1,10 @@
 -- The joined language is that of the contexts at a slot, and that of the reader at the reader.
 use Rattle.std.proofs.Common.{◌≡◌, ℕ, ◌≤◌, ◌<◌, List, [], ◌∷◌, ◌++◌, Bool, true, false, ◌==◌, nat_le, nat_lt, cond, refl, ◌∙◌, ap, subst, arith, ◌⊎◌, inl, inr, map, filter}
-use Rattle.std.proofs.lemmas.Bool.{eqb-true, eq-eqb, ne_eqb, le-leb, leb-false, lt-ltb, ltb-false, leb-true, ltb-true}
+use Rattle.std.proofs.lemmas.Bool.{eqb-true, eq-eqb, ne_eqb, le-leb, lt-ltb, leb-true, ltb-true}
 use Rattle.actor_theory.specs.declared.entry.Entry.{Entry}
 use Rattle.actor_theory.specs.declared.entry.ReaderStep.{ReaderStep}
 use Rattle.actor_theory.specs.declared.entry.ReaderStep.TheVariants.{Item, Entry as Taken}
-use Rattle.actor_theory.specs.Language.{Sent, Moment, first, after_all, naive, number_after, number_along, stamped, is_for, mail, reply, replies}
+use Rattle.actor_theory.specs.Language.{Sent, Moment, first, after_all, naive, number_after, number_along, stamped, is_for, mail, replies}
 use Rattle.actor_theory.specs.World.{own}
 use Rattle.actor_theory.specs.Faithful.{IsUnspentAlong, IsReaderQuiet}
 use Rattle.actor_theory.specs.Joined.{Slots, Reader, joined, lifted, lifted_sent, to_actors, to_slots, reader_next, reader_sent, slot_after, reader_after, IsUnspentSlot, step_entry}

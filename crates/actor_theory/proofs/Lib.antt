@@ -23,3 +23,7 @@ pub mod Machining
 pub mod Reading
 pub mod Turning
 pub mod Beginning
+pub mod Ending
+pub mod Measuring
+pub mod Looping
+pub mod Places

@@ -1,20 +1,17 @@
 -- The machine's steps are those of its world.
-use Rattle.std.proofs.Common.{◌≡◌, ℕ, zero, suc, ◌+◌, ◌≤◌, ◌<◌, List, [], ◌∷◌, ◌++◌, Bool, true, false, ◌==◌, cond, Option, Some, None, refl, sym, ◌∙◌, ap, subst, append_assoc, append-nil, arith, ◌⊎◌, inl, inr, map, length, slice_get, slice_set, IfSome}
+use Rattle.std.proofs.Common.{◌≡◌, ℕ, suc, ◌≤◌, ◌<◌, List, [], ◌∷◌, ◌++◌, Bool, true, false, ◌==◌, cond, Some, None, refl, sym, ◌∙◌, ap, subst, append_assoc, arith, ◌⊎◌, inl, inr, map, length, slice_get, slice_set, IfSome}
 use Rattle.std.specs.Option.{is_some}
 use Rattle.std.specs.List.{AllByRecursion}
-use Rattle.std.proofs.lemmas.Bool.{eqb-true, eqb-false, eq-eqb, ne_eqb, cases_eq}
+use Rattle.std.proofs.lemmas.Bool.{eqb-true, eqb-false, ne_eqb, cases_eq}
 use Rattle.std.proofs.lemmas.List.{map-append}
 use Rattle.actor_theory.specs.declared.entry.Entry.{Entry}
-use Rattle.actor_theory.specs.declared.entry.ReaderStep.{ReaderStep}
-use Rattle.actor_theory.specs.declared.entry.ReaderStep.TheVariants.{Item, Entry as Taken}
 use Rattle.actor_theory.specs.Language.{Language, Sent, Moment, naive, number_after, reply, mail}
-use Rattle.actor_theory.specs.World.{World, own, first_from, finds, found, handled, step}
-use Rattle.actor_theory.specs.Joined.{Slots, Reader, joined, lifted, to_actors, slots_only, step_entry}
+use Rattle.actor_theory.specs.World.{World, first_from, finds, found, handled}
+use Rattle.actor_theory.specs.Joined.{Slots, Reader, joined, lifted, to_actors, step_entry}
 use Rattle.actor_theory.specs.Kept.{entry_of}
-use Rattle.actor_theory.specs.Machine.{Cell, ReaderCell, cell_log, queue_in, queue_at, own_items, world_of, IsCellOf, Stand, cell_after, reader_after_entry, reader_after_item, delivered, Stepped}
-use Rattle.actor_theory.proofs.Joining.{slot_moment, reader_moment, mail-to_slots_none}
-use Rattle.actor_theory.proofs.Queues.{lifted_found, first_from-lifted, behind, first_from-own, first_from-nobody, all-rest, all-append, all-mail, get-set_same, get-set_other, length-set, length-arrived, delivered-at, delivered-lifted, slots-actors}
-use Rattle.actor_theory.proofs.Cells.{cell-after, reader-entry, reader-item, is-slot, cell-is, slot-log, reader-log, slot-moment, reader-moment, finds-slot, finds-reader}
+use Rattle.actor_theory.specs.Machine.{Cell, ReaderCell, cell_log, queue_in, queue_at, own_items, world_of, IsCellOf, Stand, cell_after, delivered, Stepped}
+use Rattle.actor_theory.proofs.Queues.{lifted_found, all-append, all-mail, get-set_same, get-set_other, length-set, length-arrived, delivered-at, delivered-lifted}
+use Rattle.actor_theory.proofs.Cells.{cell-after, is-slot, cell-is, slot-log, slot-moment, finds-slot}
 use mathlib.Core.Path.{fun_ext}
 
 -- two worlds with the same logs and queues are the same

@@ -1,21 +1,19 @@
 -- The order of a faithful record is a run, and gives the record again.
-use Rattle.std.proofs.Common.{◌≡◌, ℕ, zero, suc, ◌≤◌, ◌<◌, List, [], ◌∷◌, Option, Some, None, refl, sym, ◌∙◌, ap, subst, arith, ◌⊎◌, inl, inr, map, slice_get, IfSome, true}
+use Rattle.std.proofs.Common.{◌≡◌, ℕ, zero, suc, List, [], ◌∷◌, Option, Some, None, refl, sym, ◌∙◌, ap, subst, ◌⊎◌, inl, inr, map, slice_get, IfSome}
 use Rattle.std.proofs.lemmas.Bool.{ne_eqb, eq-eqb, cases_eq}
-use Rattle.std.proofs.lemmas.Option.{slice_get_past}
 use Rattle.actor_theory.specs.declared.entry.Entry.{Entry}
 use Rattle.actor_theory.specs.declared.entry.Handled.{Handled}
 use Rattle.actor_theory.specs.declared.entry.ReaderStep.{ReaderStep}
-use Rattle.actor_theory.specs.declared.entry.ReaderStep.TheVariants.{Item, Entry as Taken}
 use Rattle.actor_theory.specs.Language.{Language, Moment, next, first, number_after, numbers_along}
 use Rattle.actor_theory.specs.World.{World, start, step, steps, follow}
 use Rattle.actor_theory.specs.Order.{Handling, handlings_from, handlings, merged, insert_all, pick_of, FindsEach, order_of, ordered, left_of}
 use Rattle.actor_theory.specs.Joined.{Slots, Reader, joined, lifted, step_entry, step_number}
-use Rattle.actor_theory.specs.Kept.{SlotKept, Kept, entry_of, number_of, log_of, slot_log, slot_left, world_of_kept, IsNaive, IsSlotEnded, IsFaithful, IsKept}
+use Rattle.actor_theory.specs.Kept.{SlotKept, Kept, entry_of, number_of, slot_log, slot_left, world_of_kept, IsNaive, IsSlotEnded, IsFaithful, IsKept}
 use Rattle.actor_theory.specs.Replay.{slot_handling, reader_handling, slot_handlings, kept_handlings, order_of_kept, IsReplayedKept}
 use Rattle.actor_theory.proofs.Merging.{order-is}
 use Rattle.actor_theory.proofs.Ordering.{faithful-replayed}
 use Rattle.actor_theory.proofs.Leaving.{ordered-lifted, ordered-nil}
-use Rattle.actor_theory.proofs.Keeping.{log-reader, queue-reader, log-slot, queue-slot, faithful-run}
+use Rattle.actor_theory.proofs.Keeping.{log-reader, log-slot, faithful-run}
 
 slot-numbers : {S C I : Type 0} (L : Language S (C ⊎ I)) (d : ℕ) (m : Moment S) (hs : List (Handled C)) → map number_of hs ≡ numbers_along m.number (map entry_of hs) → map (slot_handling d) hs ≡ handlings_from L d m (map lifted (map entry_of hs))
 slot-numbers L d m [] h = refl

@@ -1,7 +1,7 @@
 -- The loops of a program that runs rounds.
-use Rattle.std.proofs.Common.{◌≡◌, ℕ, zero, suc, ◌+◌, ◌-◌, ◌≤◌, ◌<◌, List, Bool, true, false, ◌||◌, cond, Option, Some, None, refl, sym, ◌∙◌, ap, arith, ◌⊎◌, inl, inr}
+use Rattle.std.proofs.Common.{◌≡◌, ℕ, zero, suc, ◌+◌, ◌-◌, ◌≤◌, ◌<◌, List, Bool, true, false, ◌||◌, cond, Option, Some, None, refl, sym, ◌∙◌, ap, arith, ◌∷◌, [], ◌++◌, subst, ◌==◌, ◌⊎◌, inl, inr}
 use Rattle.std.specs.Option.{is_some}
-use Rattle.std.proofs.lemmas.Bool.{lt-leb, cases_lt}
+use Rattle.std.proofs.lemmas.Bool.{eq-eqb, lt-leb, cases_lt}
 use Rattle.actor_theory.specs.declared.entry.Entry.{Entry}
 use Rattle.actor_theory.specs.Language.{Language}
 use Rattle.actor_theory.specs.World.{World, found, finds, step, turn_of, turns, round, rounds, IsQuiet, IsFinished}
@@ -13,13 +13,16 @@ pub rounding-none : {S C : Type 0} (L : Language S C) (weight : S → ℕ) (cost
 rounding-none L weight cost takes began = let all : suc L.contexts - 0 ≡ suc L.contexts = omega arith in record { rest = ap (λ n. turns L takes 0 n began) all; falls = omega arith; quiet = λ e. (refl, λ k lt. absurd (omega arith)) }
 
 -- a step that finds something lowers the potential, and else nothing changes
-step-falls : {S C : Type 0} (L : Language S C) (weight : S → ℕ) (cost : ℕ → Entry C → ℕ) → IsMeasure L weight cost → (w : World C) (p : ℕ × ℕ)
+step-falls : {S C : Type 0} (L : Language S C) (weight : S → ℕ) (cost : ℕ → Entry C → ℕ) (IsLog : ℕ → List (Entry C) → Type 0) → IsMeasure L IsLog weight cost → (w : World C) (p : ℕ × ℕ) → IsLog p.0 ((step L w p).log p.0)
     → potential L weight cost (step L w p) + cond (is_some (finds L w p.0 p.1)) 1 0 ≤ potential L weight cost w
-step-falls {C} L weight cost measure w p = go (finds L w p.0 p.1) refl
+step-falls {S} {C} L weight cost IsLog measure w p is_log = go (finds L w p.0 p.1) refl is_log
   where
-    go : (o : Option (Entry C × List (Entry C))) → finds L w p.0 p.1 ≡ o → potential L weight cost (found L w p.0 o) + cond (is_some o) 1 0 ≤ potential L weight cost w
-    go None i = omega arith
-    go (Some z) i = let falls = handled-falls L weight cost measure w p.0 p.1 z.0 z.1 i in omega arith
+    one : (e : Entry C) → cond (p.0 == p.0) (w.log p.0 ++ e ∷ []) (w.log p.0) ≡ w.log p.0 ++ e ∷ []
+    one e = rw (eq-eqb p.0 p.0 refl) refl
+
+    go : (o : Option (Entry C × List (Entry C))) → finds L w p.0 p.1 ≡ o → IsLog p.0 ((found L w p.0 o).log p.0) → potential L weight cost (found L w p.0 o) + cond (is_some o) 1 0 ≤ potential L weight cost w
+    go None i is = omega arith
+    go (Some z) i is = let P : List (Entry C) → Type 0 = IsLog p.0 in let here : IsLog p.0 (w.log p.0 ++ z.0 ∷ []) = subst P (one z.0) is in let falls = handled-falls L weight cost IsLog measure w p.0 p.1 z.0 z.1 i here in omega arith
 
 turns-suc : {S C : Type 0} (L : Language S C) (takes : Bool) (d n : ℕ) (w : World C) → 0 < n → turns L takes d n w ≡ turns L takes (d + 1) (n - 1) (step L w (turn_of L takes w d))
 turns-suc L takes d zero w lt = absurd (omega arith)
@@ -31,10 +34,10 @@ joined x y z true false p q = omega arith
 joined x y z false true p q = omega arith
 joined x y z false false p q = omega arith
 
-pub rounding-more : {S C : Type 0} (L : Language S C) (weight : S → ℕ) (cost : ℕ → Entry C → ℕ) → IsMeasure L weight cost → (takes : Bool) (began now then : World C) (d : ℕ) (handled more : Bool)
-    → Rounding L weight cost takes began now d handled → d ≤ L.contexts → then ≡ step L now (turn_of L takes now d) → more ≡ is_some (finds L now d (turn_of L takes now d).1)
+pub rounding-more : {S C : Type 0} (L : Language S C) (weight : S → ℕ) (cost : ℕ → Entry C → ℕ) (IsLog : ℕ → List (Entry C) → Type 0) → IsMeasure L IsLog weight cost → (takes : Bool) (began now then : World C) (d : ℕ) (handled more : Bool)
+    → Rounding L weight cost takes began now d handled → d ≤ L.contexts → IsLog d (then.log d) → then ≡ step L now (turn_of L takes now d) → more ≡ is_some (finds L now d (turn_of L takes now d).1)
     → Rounding L weight cost takes began then (d + 1) (handled || more)
-rounding-more {C} L weight cost measure takes began now then d handled more h le is found_is = let less : suc L.contexts - (d + 1) ≡ suc L.contexts - d - 1 = omega arith in record {
+rounding-more {C} L weight cost IsLog measure takes began now then d handled more h le is_log is found_is = let less : suc L.contexts - (d + 1) ≡ suc L.contexts - d - 1 = omega arith in record {
   rest =
       ap (turns L takes (d + 1) (suc L.contexts - (d + 1))) is
       ∙ ap (λ n. turns L takes (d + 1) n (step L now (turn_of L takes now d))) less
@@ -44,7 +47,7 @@ rounding-more {C} L weight cost measure takes began now then d handled more h le
 }
   where
     low : potential L weight cost then + cond more 1 0 ≤ potential L weight cost now
-    low = rw (is, found_is) (step-falls L weight cost measure now (turn_of L takes now d))
+    low = let P : World C → Type 0 = λ w. IsLog d (w.log d) in rw (is, found_is) (step-falls L weight cost IsLog measure now (turn_of L takes now d) (subst P is is_log))
 
     none-some : (o : Option (Entry C × List (Entry C))) → false ≡ is_some o → o ≡ None
     none-some None e = refl

@@ -1,12 +1,12 @@
 -- The machine's turns: an actor handles its oldest entry, and the reader without one its next item.
-use Rattle.std.proofs.Common.{◌≡◌, ℕ, suc, ◌+◌, ◌<◌, List, [], ◌∷◌, ◌++◌, Bool, true, false, ◌==◌, cond, Option, Some, None, refl, sym, ◌∙◌, ap, subst, arith, ◌⊎◌, inl, inr, map, slice_get, slice_set}
+use Rattle.std.proofs.Common.{◌≡◌, ℕ, ◌+◌, List, [], ◌∷◌, ◌++◌, Bool, true, false, cond, Some, refl, sym, ◌∙◌, ap, subst, arith, ◌⊎◌, inr, map, slice_get, slice_set}
 use Rattle.std.proofs.lemmas.Bool.{eq-eqb, ne_eqb}
 use Rattle.std.specs.List.{AllByRecursion}
 use Rattle.actor_theory.specs.declared.entry.Entry.{Entry}
-use Rattle.actor_theory.specs.Language.{Language, number_after}
-use Rattle.actor_theory.specs.World.{World, own, first_from, head_sender, other_sender, turn_of}
+use Rattle.actor_theory.specs.Language.{number_after}
+use Rattle.actor_theory.specs.World.{own, first_from, head_sender, other_sender, turn_of}
 use Rattle.actor_theory.specs.Joined.{Slots, Reader, joined, lifted, slots_only}
-use Rattle.actor_theory.specs.Machine.{Cell, ReaderCell, queue_at, own_items, world_of, Stand, cell_after, reader_after_entry, reader_after_item, delivered, Stepped}
+use Rattle.actor_theory.specs.Machine.{Cell, ReaderCell, queue_at, world_of, Stand, cell_after, reader_after_entry, reader_after_item, delivered, Stepped}
 use Rattle.actor_theory.proofs.Queues.{first_from-head, head_sender-lifted, other_sender-own, other_sender-lifted}
 use Rattle.actor_theory.proofs.Cells.{is-slot}
 use Rattle.actor_theory.proofs.Machining.{stepped-slot}
@@ -37,7 +37,7 @@ turned-slot contexts A B takes cells reader queued d c e rest h at alive queue =
     let other : d ≡ contexts → ⊥ = λ i. omega arith in
     let turn = turn-slot contexts A B takes cells reader queued d other ∙ ap (λ q. (d, head_sender (contexts + 1) q)) queue in
     let P : ℕ × ℕ → Type 0 = λ p. Stepped contexts A B cells reader queued p (slice_set cells d (cell_after A c e)) reader
-      (delivered d (number_after c.number e) (A.sent c.state (number_after c.number e) e) (slice_set queued d rest)) true in
+    (delivered d (number_after c.number e) (A.sent c.state (number_after c.number e) e) (slice_set queued d rest)) true in
     subst P (sym turn) (stepped-slot contexts A B cells reader queued d e.sender c e rest h at alive (ap (first_from e.sender) queue ∙ first_from-head e rest))
 
 pub turned-slot_empty : {S R C I : Type 0} (contexts : ℕ) (A : Slots S C) (B : Reader R C I) (takes : Bool) (cells : List (Cell S C)) (reader : ReaderCell R C I) (queued : List (List (Entry C))) (d : ℕ) (c : Cell S C)

@@ -10,3 +10,4 @@ pub mod Joined
 pub mod Kept
 pub mod Replay
 pub mod Machine
+pub mod Measure

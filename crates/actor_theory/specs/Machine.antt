@@ -1,5 +1,5 @@
 -- A machine of one thread: a cell per slot, a reader with the rest of its items, and a queue per actor of what others sent.
-use Rattle.std.specs.Prelude.{◌≡◌, ℕ, zero, suc, ◌+◌, List, [], ◌∷◌, ◌++◌, Bool, ◌==◌, nat_lt, if◌then◌else◌, Option, Some, None, map, filter, length, slice_get, IfSome, ◌⊎◌}
+use Rattle.std.specs.Prelude.{slice_index_or, remove, ◌<◌, ◌≡◌, ℕ, zero, suc, ◌+◌, List, [], ◌∷◌, ◌++◌, Bool, ◌==◌, if◌then◌else◌, Option, Some, None, map, length, slice_get, IfSome, ◌⊎◌}
 use Rattle.std.specs.List.{AllByRecursion}
 use Rattle.std.specs.Option.{is_some}
 use Rattle.std.proofs.Common.{inr}
@@ -8,7 +8,7 @@ use Rattle.actor_theory.specs.declared.entry.Handled.{Handled}
 use Rattle.actor_theory.specs.declared.entry.ReaderStep.{ReaderStep}
 use Rattle.actor_theory.specs.declared.entry.ReaderStep.TheVariants.{Item, Entry as Taken}
 use Rattle.actor_theory.specs.Language.{Sent, number_after, number_along, numbers_along, mail}
-use Rattle.actor_theory.specs.World.{World, own, step, finds}
+use Rattle.actor_theory.specs.World.{first_from, World, own, step, finds}
 use Rattle.actor_theory.specs.Order.{ordered}
 use Rattle.actor_theory.specs.Joined.{Slots, Reader, joined, lifted, slots_only, slot_after, reader_after, step_entry, step_number}
 use Rattle.actor_theory.specs.Kept.{entry_of, number_of, SlotKept, Kept}
@@ -110,6 +110,10 @@ fresh_cells A (suc n) = fresh_cells A n ++ (record { state = A.start n; number =
 abbrev pub fresh_reader : {R C I : Type 0} → Reader R C I → List I → ReaderCell R C I
 fresh_reader B items = record { state = B.start; number = 0; steps = []; rest = items }
 
+-- the reader without its items, as it is in boot
+abbrev pub without_items : {R C I : Type 0} → ReaderCell R C I → ReaderCell R C I
+without_items r = record { state = r.state; number = r.number; steps = r.steps; rest = [] }
+
 -- so many empty queues
 abbrev pub empty_queues : {C : Type 0} → ℕ → List (List (Entry C))
 empty_queues zero = []
@@ -131,3 +135,8 @@ slots_kept contexts A shows queued k (c ∷ cells) = slot_kept contexts A shows 
 -- the record of the machine
 abbrev pub kept_of : {S R X C I : Type 0} → ℕ → Slots S C → (S → X) → List (Cell S C) → ReaderCell R C I → List (List (Entry C)) → Kept X C I
 kept_of contexts A shows cells reader queued = record { slots = slots_kept contexts A shows queued 0 cells; steps = reader.steps; left = ordered (suc contexts) (queue_at queued contexts) }
+
+-- the place of the oldest entry of a sender
+abbrev pub IsPlace : {C : Type 0} → ℕ → List (Entry C) → Option ℕ → Type 0
+IsPlace s queue None = first_from s queue ≡ None
+IsPlace {C} s queue (Some i) = (i < length queue) × ((d : Entry C) → first_from s queue ≡ Some (slice_index_or queue i d, remove queue i))

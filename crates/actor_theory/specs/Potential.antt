@@ -1,5 +1,5 @@
 -- A measure that each step lowers.
-use Rattle.std.specs.Prelude.{◌≡◌, ℕ, zero, suc, ◌+◌, ◌≤◌, ◌<◌, List, [], ◌∷◌, false}
+use Rattle.std.specs.Prelude.{◌≡◌, ℕ, zero, suc, ◌+◌, ◌≤◌, ◌<◌, List, [], ◌∷◌, ◌++◌, false}
 use Rattle.actor_theory.specs.declared.entry.Entry.{Entry}
 use Rattle.actor_theory.specs.Language.{Sent}
 use Rattle.actor_theory.specs.Language.{Language, Moment, next, naive, number_after, stamped}
@@ -17,9 +17,9 @@ entry_cost cost s number x = cost x.target (stamped s number x)
 abbrev pub Pays : {S C : Type 0} → Language S C → (S → ℕ) → (ℕ → Entry C → ℕ) → ℕ → Moment S → Entry C → Type 0
 Pays L weight cost d m e = weight (next L m e).state + total (entry_cost cost d (number_after m.number e)) (L.sent m.state (number_after m.number e) e) < weight m.state + cost d e
 
--- a weight of states and a cost of waiting entries, which pay for all that a handling sends
-pub record IsMeasure {S C : Type 0} (L : Language S C) (weight : S → ℕ) (cost : ℕ → Entry C → ℕ) : Type 0 where
-  pub pays : (d : ℕ) (log : List (Entry C)) (e : Entry C) → d ≤ L.contexts → L.is_spent (naive L d log).state ≡ false → Pays L weight cost d (naive L d log) e
+-- a weight of states and a cost of waiting entries, which pay for all that a handling sends, wherever it gives such a log
+pub record IsMeasure {S C : Type 0} (L : Language S C) (IsLog : ℕ → List (Entry C) → Type 0) (weight : S → ℕ) (cost : ℕ → Entry C → ℕ) : Type 0 where
+  pub pays : (d : ℕ) (log : List (Entry C)) (e : Entry C) → d ≤ L.contexts → IsLog d (log ++ e ∷ []) → L.is_spent (naive L d log).state ≡ false → Pays L weight cost d (naive L d log) e
 
 abbrev pub sum_to : ℕ → (ℕ → ℕ) → ℕ
 sum_to zero f = 0

@@ -1,4 +1,4 @@
-ghost use Rattle.std.specs.Prelude.{◌≡◌, ℕ, ◌<◌, ◌⊎◌, List, [], Some, true, map, Option};
+ghost use Rattle.std.specs.Prelude.{◌≡◌, ℕ, ◌<◌, ◌⊎◌, List, [], ◌∷◌, ◌++◌, Some, true, map, Option};
 ghost use Rattle.std.proofs.Common.{inr};
 ghost use Rattle.actor_theory.specs.Language.{Language};
 ghost use Rattle.actor_theory.specs.World.{World, IsFinished, finds, given, handled};
@@ -11,6 +11,7 @@ ghost use Rattle.actor_theory.specs.Joined.{Reader, Slots, joined};
 ghost use Rattle.actor_theory.specs.Kept.{IsFaithful, IsKept, IsScheduled, Kept, world_of_kept};
 ghost use Rattle.actor_theory.specs.Replay.{IsReplayedKept};
 ghost use Rattle.actor_theory.specs.Machine.{Stand};
+ghost use Rattle.actor_theory.specs.Measure.{IsJoinedLog, IsReaderMeasure, IsSlotMeasure, joined_cost, joined_weight};
 ghost use Rattle.actor_theory.specs.declared.entry.Entry.{Entry};
 
 /// Whatever the language, the items and the picks: what a schedule makes is faithful.
@@ -79,7 +80,12 @@ pub fn logs_are_replayed<S, C>()
     ensures replayed { (L : Language S C) (items : List C) (w : World C) (hs : List (Handling C)) → IsFaithfulRun L items w → IsOrder L w hs → IsReplayed L items w hs }
 {}
 
+/// The measures of contexts and of a reader are one of both.
+pub fn measures_join<S, R, C, I>()
+    ensures { (contexts : ℕ) (A : Slots S C) (B : Reader R C I) (slot_weight : S → ℕ) (reader_weight : R → ℕ) (cost : ℕ → Entry C → ℕ) (item_cost : I → ℕ) → IsSlotMeasure contexts A slot_weight cost → IsReaderMeasure contexts B reader_weight cost item_cost → IsMeasure (joined contexts A B) (IsJoinedLog contexts) (joined_weight slot_weight reader_weight) (joined_cost cost item_cost) }
+{}
+
 /// A handling lowers the potential, where a weight pays for what is sent.
-pub fn handling_lowers<S, C>()
-    ensures { (L : Language S C) (weight : S → ℕ) (cost : ℕ → Entry C → ℕ) → IsMeasure L weight cost → (w : World C) (d s : ℕ) (e : Entry C) (rest : List (Entry C)) → finds L w d s ≡ Some (e, rest) → potential L weight cost (handled L w d e rest) < potential L weight cost w }
+pub fn handling_lowers<S, R, C, I>()
+    ensures { (contexts : ℕ) (A : Slots S C) (B : Reader R C I) (weight : S ⊎ R → ℕ) (cost : ℕ → Entry (C ⊎ I) → ℕ) → IsMeasure (joined contexts A B) (IsJoinedLog contexts) weight cost → (w : World (C ⊎ I)) (d s : ℕ) (e : Entry (C ⊎ I)) (rest : List (Entry (C ⊎ I))) → finds (joined contexts A B) w d s ≡ Some (e, rest) → IsJoinedLog contexts d (w.log d ++ e ∷ []) → potential (joined contexts A B) weight cost (handled (joined contexts A B) w d e rest) < potential (joined contexts A B) weight cost w }
 {}
