@@ -39,7 +39,7 @@ cancel [] ys zs h = h
 cancel (x ∷ xs) ys zs h = cancel xs ys zs (cc)
 
 -- so what is in an outbox is from its owner
-box-by : {S C : Type 0} (L : Language S C) (items : List C) (w : World C) (outbox : ℕ → ℕ → List (Entry C)) → Holds L items w outbox → (s d : ℕ) → by s (outbox s d) ≡ outbox s d
+pub box-by : {S C : Type 0} (L : Language S C) (items : List C) (w : World C) (outbox : ℕ → ℕ → List (Entry C)) → Holds L items w outbox → (s d : ℕ) → by s (outbox s d) ≡ outbox s d
 box-by L items w outbox h s d =
     let A = by s (w.log d ++ w.queue d) in
     cancel A (by s (outbox s d)) (outbox s d)

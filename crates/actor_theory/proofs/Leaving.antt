@@ -12,7 +12,7 @@ use Rattle.actor_theory.proofs.Given.{both-nil}
 use Rattle.actor_theory.proofs.Scheduled.{senders-from_by, sends-none}
 use Rattle.actor_theory.proofs.Beside.{by-by, begins-more}
 
-by-by_other : {C : Type 0} (s t : ℕ) (es : List (Entry C)) → (s ≡ t → ⊥) → by s (by t es) ≡ []
+pub by-by_other : {C : Type 0} (s t : ℕ) (es : List (Entry C)) → (s ≡ t → ⊥) → by s (by t es) ≡ []
 by-by_other s t [] h = refl
 by-by_other {C} s t (e ∷ es) h = go (by-by_other s t es h) (e.sender == t) refl
   where

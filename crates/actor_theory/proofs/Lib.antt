@@ -17,6 +17,7 @@ pub mod Leaving
 pub mod Keeping
 pub mod Recording
 pub mod Replaying
+pub mod Sorting
 pub mod Queues
 pub mod Cells
 pub mod Machining
@@ -24,6 +25,8 @@ pub mod Reading
 pub mod Turning
 pub mod Beginning
 pub mod Ending
+pub mod Posting
 pub mod Measuring
 pub mod Looping
 pub mod Places
+pub mod Waiting

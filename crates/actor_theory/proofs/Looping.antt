@@ -1,9 +1,8 @@
 -- The machine's rounds and picks, and the record at their end.
-use Rattle.std.proofs.Common.{◌≡◌, ℕ, ◌+◌, ◌<◌, ◌≤◌, List, [], ◌∷◌, Bool, true, false, ◌||◌, Option, refl, sym, ◌∙◌, ap, subst, ◌⊎◌, inr, map, length, drop}
-use Rattle.std.proofs.lemmas.List.{drop_more}
+use Rattle.std.proofs.Common.{◌≡◌, ℕ, ◌+◌, ◌<◌, ◌≤◌, List, [], ◌∷◌, Bool, true, false, ◌||◌, Option, sym, ◌∙◌, ap, subst, ◌⊎◌, inr, map, length, drop}
 use Rattle.actor_theory.specs.declared.entry.Entry.{Entry}
 use Rattle.actor_theory.specs.Language.{Language}
-use Rattle.actor_theory.specs.World.{World, step, start, given, picked, follow, turn_of, IsFinished}
+use Rattle.actor_theory.specs.World.{World, step, picked, follow, turn_of, IsFinished}
 use Rattle.actor_theory.specs.Faithful.{BeginsWithBoot, IsBoot}
 use Rattle.actor_theory.specs.Holds.{Holds}
 use Rattle.actor_theory.specs.Potential.{IsMeasure}
@@ -36,10 +35,10 @@ pub follow-more : {S C : Type 0} (L : Language S C) (now then to : World C) (pic
 follow-more {S} {C} L now then to picks i pick lt dropped h is = ap (λ w. follow L w (drop (i + 1) picks)) is ∙ sym (ap (follow L now) dropped) ∙ h
 
 -- boot's rounds, from the loads alone
-pub machine-boot : {S R C I : Type 0} (contexts : ℕ) (A : Slots S C) (B : Reader R C I) (items : List I) (cells : List (Cell S C)) (reader : ReaderCell R C I) (queued : List (List (Entry C)))
+pub machine-boot : {S R C I : Type 0} (contexts : ℕ) (A : Slots S C) (B : Reader R C I) (cells : List (Cell S C)) (reader : ReaderCell R C I) (queued : List (List (Entry C)))
     → IsFinished (joined contexts A B) false (world_of contexts (fresh_cells A contexts) (fresh_reader B []) (loaded_queues contexts B)) (world_of contexts cells (without_items reader) queued)
     → IsBoot (joined contexts A B) (world_of contexts cells (without_items reader) queued)
-machine-boot {S} {R} {C} {I} contexts A B items cells reader queued h = let P : World (C ⊎ I) → Type 0 = λ w. IsFinished (joined contexts A B) false w (world_of contexts cells (without_items reader) queued) in subst P (fresh-world contexts A B) h
+machine-boot {S} {R} {C} {I} contexts A B cells reader queued h = let P : World (C ⊎ I) → Type 0 = λ w. IsFinished (joined contexts A B) false w (world_of contexts cells (without_items reader) queued) in subst P (fresh-world contexts A B) h
 
 -- after boot, with the items to come, all that was sent is in a log or a queue, and the logs begin with boot
 pub machine-holds : {S R C I : Type 0} (contexts : ℕ) (A : Slots S C) (B : Reader R C I) (cells : List (Cell S C)) (reader : ReaderCell R C I) (queued : List (List (Entry C)))

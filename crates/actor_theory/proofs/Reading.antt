@@ -19,7 +19,11 @@ arrived-none : {C : Type 0} (s n j : ℕ) (qs : List (List (Entry C))) → arriv
 arrived-none s n j [] = refl
 arrived-none s n j (q ∷ qs) = ap (λ x. x ∷ arrived s n [] (suc j) qs) (append-nil q) ∙ ap (λ xs. q ∷ xs) (arrived-none s n (suc j) qs)
 
-set-queue : {C : Type 0} (qs : List (List (Entry C))) (d : ℕ) → slice_set qs d (queue_at qs d) ≡ qs
+-- so where nothing is sent all queues stay
+pub delivered-none : {C : Type 0} (s n : ℕ) (qs : List (List (Entry C))) → delivered s n [] qs ≡ qs
+delivered-none s n qs = arrived-none s n 0 qs
+
+pub set-queue : {C : Type 0} (qs : List (List (Entry C))) (d : ℕ) → slice_set qs d (queue_at qs d) ≡ qs
 set-queue [] d = refl
 set-queue (q ∷ qs) zero = refl
 set-queue (q ∷ qs) (suc d) = ap (λ xs. q ∷ xs) (set-queue qs d)

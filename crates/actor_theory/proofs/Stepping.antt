@@ -16,7 +16,7 @@ reached : {S C : Type 0} (L : Language S C) (w : World C) (d : ℕ) (e : Entry C
     ≡ by s (w.log k ++ w.queue k) ++ by s (reply L d k (naive L d (w.log d)) e)
 reached L w d e rest s k o f true eq =
     let R = reply L d k (naive L d (w.log d)) e in
-    let regroup : (w.log d ++ e ∷ []) ++ (rest ++ R) ≡ (w.log d ++ e ∷ rest) ++ R = rw (append_assoc, append_assoc) refl in
+    let regroup : (w.log d ++ e ∷ []) ++ (rest ++ R) ≡ (w.log d ++ e ∷ rest) ++ R = append_assoc (w.log d) (e ∷ []) (rest ++ R) ∙ sym (append_assoc (w.log d) (e ∷ rest) R) in
     let swap : by s (w.log d ++ e ∷ rest) ≡ by s (w.log d ++ w.queue d) = by-append s (w.log d) (e ∷ rest) ∙ ap (λ ys. by s (w.log d) ++ ys) (sym (f.each s)) ∙ sym (by-append s (w.log d) (w.queue d)) in
     let there : by s (w.log d ++ w.queue d) ≡ by s (w.log k ++ w.queue k) = ap (λ (j : ℕ). by s (w.log j ++ w.queue j)) (sym (eqb-true k d eq)) in
     ap (by s) regroup ∙ by-append s (w.log d ++ e ∷ rest) R ∙ ap (λ ys. ys ++ by s R) (swap ∙ there)

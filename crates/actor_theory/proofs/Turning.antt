@@ -10,7 +10,7 @@ use Rattle.actor_theory.specs.Machine.{Cell, ReaderCell, queue_at, world_of, Sta
 use Rattle.actor_theory.proofs.Queues.{first_from-head, head_sender-lifted, other_sender-own, other_sender-lifted}
 use Rattle.actor_theory.proofs.Cells.{is-slot}
 use Rattle.actor_theory.proofs.Machining.{stepped-slot}
-use Rattle.actor_theory.proofs.Reading.{stepped-entry, stepped-item, stepped-slot_none, stepped-slot_spent, stepped-entry_none, stepped-item_none}
+use Rattle.actor_theory.proofs.Reading.{stepped-entry, stepped-item, stepped-slot_none, stepped-slot_spent, stepped-entry_none, stepped-item_none, delivered-none}
 
 -- whose entry an actor takes in its turn
 pub turn-slot : {S R C I : Type 0} (contexts : ℕ) (A : Slots S C) (B : Reader R C I) (takes : Bool) (cells : List (Cell S C)) (reader : ReaderCell R C I) (queued : List (List (Entry C))) (d : ℕ) → (d ≡ contexts → ⊥)
@@ -39,6 +39,16 @@ turned-slot contexts A B takes cells reader queued d c e rest h at alive queue =
     let P : ℕ × ℕ → Type 0 = λ p. Stepped contexts A B cells reader queued p (slice_set cells d (cell_after A c e)) reader
     (delivered d (number_after c.number e) (A.sent c.state (number_after c.number e) e) (slice_set queued d rest)) true in
     subst P (sym turn) (stepped-slot contexts A B cells reader queued d e.sender c e rest h at alive (ap (first_from e.sender) queue ∙ first_from-head e rest))
+
+-- where it sends nothing, only its own queue changes
+pub turned-slot_silent : {S R C I : Type 0} (contexts : ℕ) (A : Slots S C) (B : Reader R C I) (takes : Bool) (cells : List (Cell S C)) (reader : ReaderCell R C I) (queued : List (List (Entry C))) (d : ℕ) (c : Cell S C) (e : Entry C)
+    (rest : List (Entry C)) → Stand contexts A B cells reader queued → slice_get cells d ≡ Some c → A.is_spent c.state ≡ false → queue_at queued d ≡ e ∷ rest → A.sent c.state (number_after c.number e) e ≡ []
+    → Stepped contexts A B cells reader queued (turn_of (joined contexts A B) takes (world_of contexts cells reader queued) d) (slice_set cells d (cell_after A c e)) reader (slice_set queued d rest) true
+turned-slot_silent {S} {R} {C} {I} contexts A B takes cells reader queued d c e rest h at alive queue silent =
+    let P : List (List (Entry C)) → Type 0 = λ qs. Stepped contexts A B cells reader queued (turn_of (joined contexts A B) takes (world_of contexts cells reader queued) d) (slice_set cells d (cell_after A c e)) reader qs true in
+    let n : ℕ = number_after c.number e in
+    let none : delivered d n (A.sent c.state n e) (slice_set queued d rest) ≡ slice_set queued d rest = ap (λ xs. delivered d n xs (slice_set queued d rest)) silent ∙ delivered-none d n (slice_set queued d rest) in
+    subst P none (turned-slot contexts A B takes cells reader queued d c e rest h at alive queue)
 
 pub turned-slot_empty : {S R C I : Type 0} (contexts : ℕ) (A : Slots S C) (B : Reader R C I) (takes : Bool) (cells : List (Cell S C)) (reader : ReaderCell R C I) (queued : List (List (Entry C))) (d : ℕ) (c : Cell S C)
     → Stand contexts A B cells reader queued → slice_get cells d ≡ Some c → queue_at queued d ≡ []

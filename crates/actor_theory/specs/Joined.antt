@@ -22,10 +22,11 @@ pub record Reader (R C I : Type 0) : Type 0 where
   pub item_sent : R → I → List (Sent C)
   pub loads : List (Sent C)
 
--- an entry, among those that carry a cargo or an item
+-- an entry that carries a cargo, among those that carry a cargo or an item
 abbrev pub lifted : {C I : Type 0} → Entry C → Entry (C ⊎ I)
 lifted e = record { sender = e.sender; stamp = e.stamp; cargo = inl e.cargo }
 
+-- a send of a cargo, among those of a cargo or an item
 abbrev pub lifted_sent : {C I : Type 0} → Sent C → Sent (C ⊎ I)
 lifted_sent x = record { target = x.target; cargo = inl x.cargo }
 
@@ -37,6 +38,7 @@ to_actors contexts sent = map lifted_sent (filter (λ x. nat_le x.target context
 abbrev pub slots_only : {C : Type 0} → ℕ → List (Sent C) → List (Sent C)
 slots_only contexts sent = filter (λ x. nat_lt x.target contexts) sent
 
+-- the sends to slots, among those that carry a cargo or an item
 abbrev pub to_slots : {C I : Type 0} → ℕ → List (Sent C) → List (Sent (C ⊎ I))
 to_slots contexts sent = map lifted_sent (slots_only contexts sent)
 
@@ -49,22 +51,27 @@ abbrev pub slot_next : {S C I : Type 0} → Slots S C → S → ℕ → Entry (C
 slot_next A s number e (inl cargo) = A.handle s number (carrying e cargo)
 slot_next A s number e (inr item) = s
 
+-- what a context sends goes to actors
 abbrev pub slot_sent : {S C I : Type 0} → ℕ → Slots S C → S → ℕ → Entry (C ⊎ I) → (C ⊎ I) → List (Sent (C ⊎ I))
 slot_sent contexts A s number e (inl cargo) = to_actors contexts (A.sent s number (carrying e cargo))
 slot_sent contexts A s number e (inr item) = []
 
+-- the reader handles an entry, or takes an item
 abbrev pub reader_next : {R C I : Type 0} → Reader R C I → R → Entry (C ⊎ I) → (C ⊎ I) → R
 reader_next B r e (inl cargo) = B.entry r (carrying e cargo)
 reader_next B r e (inr item) = B.item r item
 
+-- only an item makes the reader send anything, and it sends to slots
 abbrev pub reader_sent : {R C I : Type 0} → ℕ → Reader R C I → R → (C ⊎ I) → List (Sent (C ⊎ I))
 reader_sent contexts B r (inl cargo) = []
 reader_sent contexts B r (inr item) = to_slots contexts (B.item_sent r item)
 
+-- the state of a context, or of the reader, after an entry
 abbrev pub actor_next : {S R C I : Type 0} → Slots S C → Reader R C I → (S ⊎ R) → ℕ → Entry (C ⊎ I) → S ⊎ R
 actor_next A B (inl s) number e = inl (slot_next A s number e e.cargo)
 actor_next A B (inr r) number e = inr (reader_next B r e e.cargo)
 
+-- what a context, or the reader, sends then
 abbrev pub actor_sent : {S R C I : Type 0} → ℕ → Slots S C → Reader R C I → (S ⊎ R) → ℕ → Entry (C ⊎ I) → List (Sent (C ⊎ I))
 actor_sent contexts A B (inl s) number e = slot_sent contexts A s number e e.cargo
 actor_sent contexts A B (inr r) number e = reader_sent contexts B r e.cargo
@@ -106,6 +113,7 @@ abbrev pub step_entry : {I C : Type 0} → ℕ → ReaderStep I C → Entry (C �
 step_entry reader (Item i n) = own reader (inr i)
 step_entry reader (Taken e n) = lifted e
 
+-- a step's number
 abbrev pub step_number : {I C : Type 0} → ReaderStep I C → ℕ
 step_number (Item i n) = n
 step_number (Taken e n) = n

@@ -17,14 +17,17 @@ pub record SlotKept (X C : Type 0) : Type 0 where
   pub left : List (Entry C)
   pub spent : Bool
 
+-- what is kept of a run: of each slot, and of the reader
 pub record Kept (X C I : Type 0) : Type 0 where
   pub slots : List (SlotKept X C)
   pub steps : List (ReaderStep I C)
   pub left : List (Entry C)
 
+-- the entry that was handled
 abbrev pub entry_of : {C : Type 0} → Handled C → Entry C
 entry_of h = h.entry
 
+-- the number of its handling
 abbrev pub number_of : {C : Type 0} → Handled C → ℕ
 number_of h = h.number
 
@@ -32,10 +35,12 @@ number_of h = h.number
 abbrev pub log_of : {X C : Type 0} → SlotKept X C → List (Entry C)
 log_of c = map entry_of c.handled
 
+-- the log of the slot at a place, if there is one
 abbrev pub slot_log : {X C I : Type 0} → Option (SlotKept X C) → List (Entry (C ⊎ I))
 slot_log None = []
 slot_log (Some c) = map lifted (log_of c)
 
+-- what is left of its queue
 abbrev pub slot_left : {X C I : Type 0} → Option (SlotKept X C) → List (Entry (C ⊎ I))
 slot_left None = []
 slot_left (Some c) = map lifted c.left
@@ -69,7 +74,7 @@ pub record IsSlotEnded {S X C : Type 0} (contexts : ℕ) (A : Slots S C) (slot :
   pub by_sender : IsBySender contexts c.left
   pub nothing_left : c.spent ≡ false → c.left ≡ []
 
--- a faithful record
+-- a faithful record: each slot's part is that of naive evaluation over its log, the reader's that of its steps, each send reached its actor once and in order, and the logs begin with boot
 pub record IsFaithful {S R X C I : Type 0} (contexts : ℕ) (A : Slots S C) (B : Reader R C I) (shows : S → X) (items : List I) (kept : Kept X C I) : Type 0 where
   pub naive : IsNaiveKept contexts A shows kept
   pub ended : (slot : ℕ) → IfSome (slice_get kept.slots slot) (IsSlotEnded contexts A slot)

@@ -22,15 +22,19 @@ pub record Moment (S : Type 0) : Type 0 where
   pub state : S
   pub number : ℕ
 
+-- a handling's number: one more than the last number and than the entry's stamp
 abbrev pub number_after : {C : Type 0} → ℕ → Entry C → ℕ
 number_after previous e = 1 + max previous e.stamp
 
+-- the moment after an entry
 abbrev pub next : {S C : Type 0} → Language S C → Moment S → Entry C → Moment S
 next L m e = record { state = L.handle m.state (number_after m.number e) e; number = number_after m.number e }
 
+-- the moment before any
 abbrev pub first : {S C : Type 0} → Language S C → ℕ → Moment S
 first L d = record { state = L.start d; number = 0 }
 
+-- the moment after these entries
 abbrev pub after_all : {S C : Type 0} → Language S C → Moment S → List (Entry C) → Moment S
 after_all L m [] = m
 after_all L m (e ∷ es) = after_all L (next L m e) es
@@ -39,11 +43,12 @@ after_all L m (e ∷ es) = after_all L (next L m e) es
 abbrev pub naive : {S C : Type 0} → Language S C → ℕ → List (Entry C) → Moment S
 naive L d log = after_all L (first L d) log
 
--- the numbers of the handlings of a log, and the last of them
+-- the numbers of the handlings of a log
 abbrev pub numbers_along : {C : Type 0} → ℕ → List (Entry C) → List ℕ
 numbers_along previous [] = []
 numbers_along previous (e ∷ es) = number_after previous e ∷ numbers_along (number_after previous e) es
 
+-- the last number of a log
 abbrev pub number_along : {C : Type 0} → ℕ → List (Entry C) → ℕ
 number_along previous [] = previous
 number_along previous (e ∷ es) = number_along (number_after previous e) es
@@ -52,6 +57,7 @@ number_along previous (e ∷ es) = number_along (number_after previous e) es
 abbrev pub stamped : {C : Type 0} → ℕ → ℕ → Sent C → Entry C
 stamped s number x = record { sender = s; stamp = number; cargo = x.cargo }
 
+-- it goes to this actor
 abbrev pub is_for : {C : Type 0} → ℕ → Sent C → Bool
 is_for k x = x.target == k
 
@@ -63,6 +69,7 @@ mail s number k sent = map (stamped s number) (filter (is_for k) sent)
 abbrev pub reply : {S C : Type 0} → Language S C → ℕ → ℕ → Moment S → Entry C → List (Entry C)
 reply L s k m e = mail s (number_after m.number e) k (L.sent m.state (number_after m.number e) e)
 
+-- what the handlings of these entries send to k
 abbrev pub replies : {S C : Type 0} → Language S C → ℕ → ℕ → Moment S → List (Entry C) → List (Entry C)
 replies L s k m [] = []
 replies L s k m (e ∷ es) = reply L s k m e ++ replies L s k (next L m e) es
@@ -83,6 +90,7 @@ before L items s = if s == L.contexts then loaded L items else []
 abbrev pub sends : {S C : Type 0} → Language S C → List C → ℕ → ℕ → List (Entry C) → List (Entry C)
 sends L items s k log = mail s 0 k (before L items s) ++ replies L s k (first L s) log
 
+-- it comes from this actor
 abbrev pub is_of : {C : Type 0} → ℕ → Entry C → Bool
 is_of s e = e.sender == s
 

@@ -26,10 +26,12 @@ pub record ReaderCell (R C I : Type 0) : Type 0 where
   pub steps : List (ReaderStep I C)
   pub rest : List I
 
+-- the log of the cell at a place, if there is one
 abbrev pub cell_log : {S C I : Type 0} → Option (Cell S C) → List (Entry (C ⊎ I))
 cell_log None = []
 cell_log (Some c) = map lifted (map entry_of c.log)
 
+-- the queue at a place, if there is one
 abbrev pub queue_in : {C : Type 0} → Option (List (Entry C)) → List (Entry C)
 queue_in None = []
 queue_in (Some queue) = queue
@@ -61,7 +63,7 @@ pub record IsReaderOf {R C I : Type 0} (contexts : ℕ) (B : Reader R C I) (r : 
   pub number : r.number ≡ number_along 0 (map (step_entry contexts) r.steps)
   pub numbers : map step_number r.steps ≡ numbers_along 0 (map (step_entry contexts) r.steps)
 
--- there is a cell a slot and a queue an actor, each stands at its log, and nobody's items but the reader's own come from the reader
+-- there is a cell for each slot and a queue for each actor, cells and reader stand at their logs, and nothing in the reader's queue comes from itself
 pub record Stand {S R C I : Type 0} (contexts : ℕ) (A : Slots S C) (B : Reader R C I) (cells : List (Cell S C)) (reader : ReaderCell R C I) (queued : List (List (Entry C))) : Type 0 where
   pub cells_count : length cells ≡ contexts
   pub queues_count : length queued ≡ suc contexts

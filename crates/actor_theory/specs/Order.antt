@@ -1,5 +1,5 @@
 -- The order of the numbers, as a run of the machine of one thread.
-use Rattle.std.specs.Prelude.{◌≡◌, ℕ, zero, suc, ◌≤◌, ◌<◌, ◌⊎◌, List, [], ◌∷◌, ◌++◌, Bool, ◌||◌, ◌&&◌, ◌==◌, nat_lt, nat_le, if◌then◌else◌, map, filter, IsSome}
+use Rattle.std.specs.Prelude.{◌≡◌, ℕ, zero, suc, ◌≤◌, ◌<◌, ◌⊎◌, List, [], ◌∷◌, ◌++◌, Bool, false, ◌||◌, ◌&&◌, ◌==◌, nat_lt, nat_le, if◌then◌else◌, map, filter, IsSome}
 use Rattle.std.specs.List.{AllByRecursion}
 use Rattle.actor_theory.specs.declared.entry.Entry.{Entry}
 use Rattle.actor_theory.specs.Language.{Language, Moment, first, next, number_after, by}
@@ -11,6 +11,7 @@ pub record Handling (C : Type 0) : Type 0 where
   pub actor : ℕ
   pub entry : Entry C
 
+-- the handlings of an actor from this moment on
 abbrev pub handlings_from : {S C : Type 0} → Language S C → ℕ → Moment S → List (Entry C) → List (Handling C)
 handlings_from L d m [] = []
 handlings_from L d m (e ∷ es) = record { number = number_after m.number e; actor = d; entry = e } ∷ handlings_from L d (next L m e) es
@@ -23,13 +24,16 @@ handlings L d log = handlings_from L d (first L d) log
 abbrev pub IsBefore : {C : Type 0} → Handling C → Handling C → Type 0
 IsBefore h g = (h.number < g.number) ⊎ ((h.number ≡ g.number) × (h.actor ≤ g.actor))
 
+-- none comes before one that stands before it
 abbrev pub IsAscending : {C : Type 0} → List (Handling C) → Type 0
 IsAscending [] = Unit {0}
 IsAscending (h ∷ hs) = AllByRecursion (IsBefore h) hs × IsAscending hs
 
+-- it is a handling of this actor
 abbrev pub is_at : {C : Type 0} → ℕ → Handling C → Bool
 is_at d h = h.actor == d
 
+-- the handlings of this actor among these
 abbrev pub at : {C : Type 0} → ℕ → List (Handling C) → List (Handling C)
 at d hs = filter (is_at d) hs
 
@@ -75,6 +79,7 @@ abbrev pub insert : {C : Type 0} → Handling C → List (Handling C) → List (
 insert h [] = h ∷ []
 insert h (g ∷ gs) = if is_before h g then h ∷ g ∷ gs else g ∷ insert h gs
 
+-- these, each in its place
 abbrev pub insert_all : {C : Type 0} → List (Handling C) → List (Handling C) → List (Handling C)
 insert_all [] hs = hs
 insert_all (x ∷ xs) hs = insert x (insert_all xs hs)
@@ -84,8 +89,19 @@ abbrev pub merged : {C : Type 0} → (ℕ → List (Handling C)) → ℕ → Lis
 merged handlings_at zero = []
 merged handlings_at (suc n) = insert_all (handlings_at n) (merged handlings_at n)
 
+-- the handlings of the actors below n, in order
 abbrev pub order_below : {S C : Type 0} → Language S C → World C → ℕ → List (Handling C)
 order_below L w n = merged (λ d. handlings L d (w.log d)) n
+
+-- the handlings of the actors below n, the last actor's first
+abbrev pub laid : {C : Type 0} → (ℕ → List (Handling C)) → ℕ → List (Handling C)
+laid handlings_at zero = []
+laid handlings_at (suc n) = handlings_at n ++ laid handlings_at n
+
+-- none is less than one before it
+abbrev pub IsAscendingBy : {X : Type 0} → (X → X → Bool) → List X → Type 0
+IsAscendingBy lt [] = Unit {0}
+IsAscendingBy lt (x ∷ xs) = AllByRecursion (λ y. lt y x ≡ false) xs × IsAscendingBy lt xs
 
 -- all handlings, in order
 abbrev pub order_of : {S C : Type 0} → Language S C → World C → List (Handling C)

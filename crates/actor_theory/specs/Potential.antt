@@ -5,6 +5,7 @@ use Rattle.actor_theory.specs.Language.{Sent}
 use Rattle.actor_theory.specs.Language.{Language, Moment, next, naive, number_after, stamped}
 use Rattle.actor_theory.specs.World.{World}
 
+-- the sum of what each costs
 abbrev pub total : {X : Type 0} → (X → ℕ) → List X → ℕ
 total cost [] = 0
 total cost (x ∷ xs) = cost x + total cost xs
@@ -21,10 +22,12 @@ Pays L weight cost d m e = weight (next L m e).state + total (entry_cost cost d 
 pub record IsMeasure {S C : Type 0} (L : Language S C) (IsLog : ℕ → List (Entry C) → Type 0) (weight : S → ℕ) (cost : ℕ → Entry C → ℕ) : Type 0 where
   pub pays : (d : ℕ) (log : List (Entry C)) (e : Entry C) → d ≤ L.contexts → IsLog d (log ++ e ∷ []) → L.is_spent (naive L d log).state ≡ false → Pays L weight cost d (naive L d log) e
 
+-- the sum over the numbers below n
 abbrev pub sum_to : ℕ → (ℕ → ℕ) → ℕ
 sum_to zero f = 0
 sum_to (suc n) f = sum_to n f + f n
 
+-- an actor's part: the weight of its state, and the cost of its queue
 abbrev pub part : {S C : Type 0} → Language S C → (S → ℕ) → (ℕ → Entry C → ℕ) → World C → ℕ → ℕ
 part L weight cost w d = weight (naive L d (w.log d)).state + total (cost d) (w.queue d)
 

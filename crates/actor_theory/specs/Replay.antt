@@ -8,13 +8,15 @@ use Rattle.actor_theory.specs.Order.{Handling, merged, pick_of, FindsEach}
 use Rattle.actor_theory.specs.Joined.{Slots, Reader, joined, lifted, step_entry, step_number}
 use Rattle.actor_theory.specs.Kept.{SlotKept, Kept, IsKept}
 
--- a slot's handling, and a reader's
+-- a slot's handling
 abbrev pub slot_handling : {C I : Type 0} → ℕ → Handled C → Handling (C ⊎ I)
 slot_handling slot h = record { number = h.number; actor = slot; entry = lifted h.entry }
 
+-- a reader's step, as a handling
 abbrev pub reader_handling : {I C : Type 0} → ℕ → ReaderStep I C → Handling (C ⊎ I)
 reader_handling reader s = record { number = step_number s; actor = reader; entry = step_entry reader s }
 
+-- the handlings of the slot at a place, if there is one
 abbrev pub slot_handlings : {X C I : Type 0} → ℕ → Option (SlotKept X C) → List (Handling (C ⊎ I))
 slot_handlings slot None = []
 slot_handlings slot (Some c) = map (slot_handling slot) c.handled

@@ -20,6 +20,7 @@ given L items w = record { log = w.log; queue = λ k. (if k == L.contexts then m
 abbrev pub start : {S C : Type 0} → Language S C → List C → World C
 start L items = record { log = λ k. []; queue = λ k. mail L.contexts 0 k (loaded L items) }
 
+-- what was found, with one more entry before the others
 abbrev pub with_front : {C : Type 0} → Entry C → Option (Entry C × List (Entry C)) → Option (Entry C × List (Entry C))
 with_front e None = None
 with_front e (Some p) = Some (p.0, e ∷ p.1)
@@ -40,6 +41,7 @@ handled L w d e rest = record {
   queue = λ k. (if k == d then rest else w.queue k) ++ reply L d k (naive L d (w.log d)) e;
 }
 
+-- the world after d has handled what was found, if anything was
 abbrev pub found : {S C : Type 0} → Language S C → World C → ℕ → Option (Entry C × List (Entry C)) → World C
 found L w d None = w
 found L w d (Some p) = handled L w d p.0 p.1
@@ -52,6 +54,7 @@ finds L w d s = if is_open L w d then first_from s (w.queue d) else None
 abbrev pub step : {S C : Type 0} → Language S C → World C → ℕ × ℕ → World C
 step L w p = found L w p.0 (finds L w p.0 p.1)
 
+-- one step after another
 abbrev pub steps : {S C : Type 0} → Language S C → World C → List (ℕ × ℕ) → World C
 steps L w [] = w
 steps L w (p ∷ ps) = steps L (step L w p) ps
@@ -70,6 +73,7 @@ head_sender s (e ∷ es) = e.sender
 abbrev pub turn_sender : {C : Type 0} → ℕ → Bool → ℕ → List (Entry C) → ℕ
 turn_sender contexts takes d queue = if d == contexts then other_sender d (if takes then d else contexts + 1) queue else head_sender (contexts + 1) queue
 
+-- an actor's turn, as a step
 abbrev pub turn_of : {S C : Type 0} → Language S C → Bool → World C → ℕ → ℕ × ℕ
 turn_of L takes w d = (d, turn_sender L.contexts takes d (w.queue d))
 
@@ -96,6 +100,7 @@ turns L takes d (suc n) w = turns L takes (d + 1) n (step L w (turn_of L takes w
 abbrev pub round : {S C : Type 0} → Language S C → Bool → World C → World C
 round L takes w = turns L takes 0 (suc L.contexts) w
 
+-- one round after another, this many
 abbrev pub rounds : {S C : Type 0} → Language S C → Bool → ℕ → World C → World C
 rounds L takes zero w = w
 rounds L takes (suc n) w = rounds L takes n (round L takes w)

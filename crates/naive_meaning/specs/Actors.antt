@@ -1,5 +1,5 @@
 -- The contexts and the reader of a run, as actors.
-use Rattle.std.specs.Prelude.{ℕ, zero, suc, List, [], ◌∷◌, map, length}
+use Rattle.std.specs.Prelude.{ℕ, zero, suc, List, [], ◌∷◌, ◌++◌, length}
 use Rattle.actor_theory.specs.Language.{Sent}
 use Rattle.actor_theory.specs.Joined.{Slots, Reader}
 use Rattle.naive_meaning.specs.declared.program.Program.{Program}
@@ -20,14 +20,10 @@ contexts_of p = record {
   is_spent = λ c. c.spent;
 }
 
--- the numbers from the first on, so many
-abbrev pub numbers_from : ℕ → ℕ → List ℕ
-numbers_from first zero = []
-numbers_from first (suc n) = first ∷ numbers_from (suc first) n
-
--- a load for each monitor, in order, to slot 0
-abbrev pub loads_of : Program → List (Sent Cargo)
-loads_of p = map (λ m. record { target = 0; cargo = cargo.Load m }) (numbers_from 0 (length p.monitors))
+-- a load for each of the first monitors, so many, in order, to slot 0
+abbrev pub loads_below : ℕ → List (Sent Cargo)
+loads_below zero = []
+loads_below (suc n) = loads_below n ++ (record { target = 0; cargo = cargo.Load n }) ∷ []
 
 -- an event item goes to slot 0
 abbrev pub item_sends : Item → List (Sent Cargo)
@@ -40,5 +36,5 @@ reader_of p = record {
   item = λ r i. tt;
   entry = λ r e. tt;
   item_sent = λ r i. item_sends i;
-  loads = loads_of p;
+  loads = loads_below (length p.monitors);
 }

@@ -58,6 +58,13 @@ impl Reader {
         }
     }
 
+    /// Gives it these items to take, in place of those that it has.
+    pub fn give(&mut self, items: Items)
+        ensures { self.new ≡ record self.old { rest = items } }
+    {
+        self.rest = Queue::from_list(items);
+    }
+
     /// Handles an entry that was sent to it. After want of memory nothing is said of it.
     pub fn handle(&mut self, entry: Entry) -> Result<(), Memory>
         ensures { OnOk result ((p : Program) → self.new ≡ reader_after_entry (reader_of p) self.old entry) }

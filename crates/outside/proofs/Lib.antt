@@ -1,0 +1,4 @@
+pub mod Puts
+pub mod Reading
+pub mod Places
+pub mod Completeness

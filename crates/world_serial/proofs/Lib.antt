@@ -1,0 +1,5 @@
+pub mod Sends
+pub mod TurnLemmas
+pub mod RoundLemmas
+pub mod StartLemmas
+pub mod EndLemmas

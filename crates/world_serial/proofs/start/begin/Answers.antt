@@ -1,0 +1,12 @@
+use Rattle.std.proofs.Common.{◌≡◌, ◌+◌, ◌∙◌, ap, refl, List, []}
+use Rattle.naive_meaning.specs.declared.entry.Item.{Item}
+use Rattle.world_serial.proofs.StartLemmas.{queues-loaded}
+use Rattle.world_serial.proofs.start.begin.Goals as goal
+
+pub returns : goal.returns
+returns c = record {
+  cells_are = c.in_ok-cells.ensures c.args.program.now;
+  reader_is = c.new-2.ensures ∙ ap (λ (is : List Item). record { state = tt; number = 0; steps = []; rest = is }) c.new.ensures;
+  queued_are =
+      queues-loaded c.args.program.now c.args.contexts (c.args.contexts + 1) c.len.result c.in_ok-queued.queued.items _ c.index_mut.result.now c.load_all.new.queue c.requires.some.0 refl c.in_ok-queued.ensures c.index_mut.ensures.value c.len.ensures.count c.in_ok-load_all.ensures refl;
+}

@@ -1,0 +1,30 @@
+use Rattle.std.proofs.Common.{◌≡◌, refl, sym, ◌∙◌, ap}
+use Rattle.actor_theory.specs.Machine.{ReaderCell}
+use Rattle.naive_meaning.specs.declared.entry.Cargo.{Cargo}
+use Rattle.naive_meaning.specs.declared.entry.Item.{Item}
+use Rattle.world_serial.proofs.TurnLemmas.{no_program, turn-entry, turn-wait, turn-done, turn-item}
+use Rattle.world_serial.proofs.turns.reader_turn.Goals as goal
+
+pub returns-in-Some-clause-turn : goal.returns-in-Some-clause-turn
+returns-in-Some-clause-turn c p h =
+    turn-entry p c.args.contexts c.args.takes c.args.world.now.cells.items c.args.world.now.reader c.handle.new.self c.args.world.now.queued.items c.take_first.new.queued.items c.in-Some.entry h c.in-Some.ensures.first
+    c.take_first.ensures.rest (c.in_ok-handle.ensures p)
+
+pub returns-in-Some-clause-waits : goal.returns-in-Some-clause-waits
+returns-in-Some-clause-waits c no_items = ap (λ (r : ReaderCell (Unit {0}) Cargo Item). r.rest) (c.in_ok-handle.ensures no_program)
+
+pub returns-then-not-takes-clause-turn : goal.returns-then-not-takes-clause-turn
+returns-then-not-takes-clause-turn c p h =
+    turn-wait p c.args.contexts c.args.takes c.args.world.now.cells.items c.args.world.now.reader c.args.world.now.queued.items c.take_first.new.queued.items c.requires.queues h c.in_default.ensures.first c.take_first.ensures.rest
+    c.if-not-takes.true
+
+pub returns-in_default-2-clause-turn : goal.returns-in_default-2-clause-turn
+returns-in_default-2-clause-turn c p h =
+    turn-done p c.args.contexts c.args.takes c.args.world.now.cells.items c.args.world.now.reader c.next_item.new.self c.args.world.now.queued.items c.take_first.new.queued.items c.requires.queues h c.in_default.ensures.first
+    c.take_first.ensures.rest c.if-not-takes.false (sym c.in_default-2.is ∙ c.in_ok-entry.ensures.sent) (c.in_ok-entry.ensures.after p)
+
+pub returns-clause-turn : goal.returns-clause-turn
+returns-clause-turn c p h =
+    turn-item p c.args.contexts c.args.takes c.args.world.now.cells.items c.args.world.now.reader c.next_item.new.self c.args.world.now.queued.items c.take_first.new.queued.items _ c.index_mut.result.now c.push.new.self
+    c.in-Some-2.entry c.requires.some c.requires.queues h c.in_default.ensures.first c.take_first.ensures.rest c.if-not-takes.false (sym c.in-Some-2.is ∙ c.in_ok-entry.ensures.sent) (c.in_ok-entry.ensures.after p)
+    c.index_mut.ensures.value c.in_ok-push.ensures.ok refl
