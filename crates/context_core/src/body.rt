@@ -6,16 +6,11 @@ ghost use Rattle.naive_meaning.specs.Turns.{ran};
 
 use crate::expression::{Frame, text_in};
 use epl_values::{List, Memory, Text, Value};
-use std::mem;
 use naive_meaning::{Context, Instance, Line, Listener, Stmt};
 use std::alloc::Global;
+use std::mem;
 
-fn print(
-    alloc: Global,
-    context: &mut Context,
-    instance: u64,
-    value: &Value,
-) -> Result<(), Memory>
+fn print(alloc: Global, context: &mut Context, instance: u64, value: &Value) -> Result<(), Memory>
     ensures { OnOk result (context.new ≡ apply instance (Print (text_in value.now)) context.old) }
 {
     let text = Text::of(alloc, text_in(value))?;

@@ -29,7 +29,6 @@ impl Model for Cell {
     ghost use Rattle.actor_theory.specs.Machine.{Cell as CellOf};
     ghost use Rattle.naive_meaning.specs.declared.context.Context.{Context};
     ghost use Rattle.naive_meaning.specs.declared.entry.Cargo.{Cargo};
-
     ghost use Rattle.epl_values.specs.contracts.value.Value as value;
     ghost use Rattle.std.specs.Coded.{codes};
 

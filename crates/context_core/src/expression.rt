@@ -42,12 +42,7 @@ fn reached<'a>(value: &'a Value, fields: &[u16]) -> Option<&'a Value>
     }
 }
 
-fn path_value(
-    alloc: Global,
-    locals: &[Value],
-    local: u16,
-    fields: &[u16],
-) -> Result<Value, Memory>
+fn path_value(alloc: Global, locals: &[Value], local: u16, fields: &[u16]) -> Result<Value, Memory>
     ensures { IfOk result (λ v. v ≡ path_value locals.now local fields.now) }
 {
     match locals.get(local as usize) {

@@ -7,7 +7,9 @@ ghost use Rattle.naive_meaning.specs.declared.entry.Cargo.TheVariants.{Load, Eve
 
 use crate::body::run;
 use epl_values::{Memory, Value, copy};
-use naive_meaning::{Action, Cargo, Context, Instance, Listener, Monitor, Program, Site, Stmt, Term};
+use naive_meaning::{
+    Action, Cargo, Context, Instance, Listener, Monitor, Program, Site, Stmt, Term,
+};
 use std::alloc::Global;
 
 /// The greatest number of a handling.
@@ -160,12 +162,7 @@ fn begin(context: &mut Context, monitor: u16) -> Result<u64, Memory>
     Ok(number)
 }
 
-fn load(
-    alloc: Global,
-    context: &mut Context,
-    program: &Program,
-    monitor: u16,
-) -> Result<(), Memory>
+fn load(alloc: Global, context: &mut Context, program: &Program, monitor: u16) -> Result<(), Memory>
     ensures { OnOk result (context.new ≡ handled program.now (Load monitor) context.old) }
 {
     let instance = begin(context, monitor)?;

@@ -39,9 +39,10 @@ by-but s t (e ∷ es) other = go (by-but s t es other) (e.sender == t) (e.sender
 pub senders-more : (n : ℕ) (q waiting waiting' left left' : List (Entry Cargo)) → left ≡ ordered n q → ((s : ℕ) → n ≤ s → by s waiting ≡ by s q) → left' ≡ left ++ by n waiting → waiting' ≡ but n waiting
     → (left' ≡ ordered (n + 1) q) × ((s : ℕ) → n + 1 ≤ s → by s waiting' ≡ by s q)
 senders-more n q waiting waiting' left left' taken waits moved others =
-    let more : n + 1 ≡ suc n = omega arith in
-    (moved ∙ ap (λ (xs : List (Entry Cargo)). xs ++ by n waiting) taken ∙ ap (λ (xs : List (Entry Cargo)). ordered n q ++ xs) (waits n (omega arith)) ∙ ap (λ k. ordered k q) (sym more),
-    λ s le. let other : s ≡ n → ⊥ = λ i. omega arith in ap (by s) others ∙ by-but s n waiting other ∙ waits s (omega arith))
+    let more : n + 1 ≡ suc n = omega arith in (
+      moved ∙ ap (λ (xs : List (Entry Cargo)). xs ++ by n waiting) taken ∙ ap (λ (xs : List (Entry Cargo)). ordered n q ++ xs) (waits n (omega arith)) ∙ ap (λ k. ordered k q) (sym more),
+      λ s le. let other : s ≡ n → ⊥ = λ i. omega arith in ap (by s) others ∙ by-but s n waiting other ∙ waits s (omega arith),
+    )
 
 -- the queues from one on
 queues-from : (k : ℕ) (queued : List (List (Entry Cargo))) → k < length queued → drop k queued ≡ queue_at queued k ∷ drop (suc k) queued
@@ -78,10 +79,11 @@ records-more contexts made made' all cells cells' queued queued' d c q left r ce
     let front : made' ++ records_of contexts cells' queued' ≡ made ++ r ∷ records_of contexts cells' queued' =
     ap (λ (xs : List ContextRecord). xs ++ records_of contexts cells' queued') pushed ∙ append_assoc made (r ∷ []) (records_of contexts cells' queued') in
     let whole : r ∷ records_of contexts cells' queued' ≡ records_of contexts cells queued =
-    ap (λ (x : ContextRecord). x ∷ records_of contexts cells' queued') made_is ∙ sym (ap (λ cs. records_of contexts cs queued) cells_are ∙ ap (records_of contexts (c ∷ cells')) queued_are) in
-    (front ∙ ap (λ (xs : List ContextRecord). made ++ xs) whole ∙ so_far,
-    sym (ap (λ cs. drop (length cs) queued) cells_are ∙ ap (drop (suc (length cells'))) queued_are) ∙ rest,
-    omega arith)
+    ap (λ (x : ContextRecord). x ∷ records_of contexts cells' queued') made_is ∙ sym (ap (λ cs. records_of contexts cs queued) cells_are ∙ ap (records_of contexts (c ∷ cells')) queued_are) in (
+      front ∙ ap (λ (xs : List ContextRecord). made ++ xs) whole ∙ so_far,
+      sym (ap (λ cs. drop (length cs) queued) cells_are ∙ ap (drop (suc (length cells'))) queued_are) ∙ rest,
+      omega arith,
+    )
 
 -- the record of the parts, as it is made
 pub world-record : (settings : Settings) (w : World) (cells : List (Cell Context Cargo)) (queued rest : List (List (Entry Cargo))) (made : List ContextRecord) (left : List (Entry Cargo)) (of_reader : ReaderRecord) → length w.cells.items ≡ settings.contexts

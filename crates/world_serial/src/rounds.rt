@@ -7,12 +7,7 @@ use epl_values::Memory;
 use naive_meaning::Program;
 
 /// A round: the slots in ascending order, and then the reader, have a turn each. Tells whether anything was handled.
-fn round(
-    world: &mut World,
-    program: &Program,
-    contexts: u8,
-    takes: bool,
-) -> Result<bool, Memory>
+fn round(world: &mut World, program: &Program, contexts: u8, takes: bool) -> Result<bool, Memory>
     requires some { 0 < contexts }
     requires standing { IsStanding program.now contexts world.old }
     ensures { IfOk result (λ handled. RoundsOn program.now contexts takes world.old world.new handled) }

@@ -65,12 +65,7 @@ fn begin(alloc: Global, program: &Program, contexts: u8) -> Result<World, Memory
 }
 
 /// Boot: the parts after the loads and all that they bring about are handled, with these items still to come.
-pub fn boot(
-    alloc: Global,
-    program: &Program,
-    items: Items,
-    contexts: u8,
-) -> Result<World, Memory>
+pub fn boot(alloc: Global, program: &Program, items: Items, contexts: u8) -> Result<World, Memory>
     requires some { (0 < contexts) × (contexts < 255) }
     requires monitors { length program.now.monitors ≤ 65535 }
     ensures { IfOk result (λ w. IsBooted program.now contexts items w) }

@@ -1,0 +1,9 @@
+pub mod Sets
+pub mod Spaces
+pub mod Cuts
+pub mod Strings
+pub mod Signs
+pub mod Longest
+pub mod Lexed
+pub mod Counts
+pub mod Spots

@@ -1,0 +1,5 @@
+pub mod Bytes
+pub mod Classes
+pub mod Spelling
+pub mod Reading
+pub mod Tokens

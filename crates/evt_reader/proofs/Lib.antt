@@ -1,0 +1,4 @@
+pub mod Cut
+pub mod Lined
+pub mod Meanings
+pub mod Names

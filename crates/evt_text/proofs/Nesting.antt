@@ -1,0 +1,26 @@
+-- Values inside values.
+use Rattle.std.proofs.Common.{◌≡◌, ℕ, zero, suc, ◌-◌, ◌<◌, List, Option, None, refl, arith, sub-one, rules, ◌≤◌, length}
+use Rattle.epl_values.specs.declared.shape.EventShape.{EventShape}
+use Rattle.epl_values.specs.declared.shape.Shape.{Shape, the_lemmas}
+use Rattle.epl_values.specs.declared.shape.Shape.TheVariants.{Event}
+use Rattle.epl_values.specs.declared.value.Value.{Value}
+use Rattle.std.proofs.lemmas.Option.{slice_get_past}
+use Rattle.evt_text.specs.Forms.{Form, EventForm, form_of}
+use Rattle.evt_text.specs.Reading.{form_at, value_from}
+
+pub value_from-zero : (depth : ℕ) (types : List EventShape) (form : Form) (text : List ℕ) → depth ≡ 0 → value_from depth types form text ≡ None
+unfolding value_from
+value_from-zero zero types form text e = refl
+value_from-zero (suc depth) types form text e = absurd (omega arith)
+
+pub value_from-suc : (depth : ℕ) (types : List EventShape) (form : Form) (text : List ℕ) → 0 < depth → value_from depth types form text ≡ form_at (value_from (depth - 1) types) types form text
+unfolding value_from
+value_from-suc zero types form text lt = absurd (omega arith)
+value_from-suc (suc depth) types form text lt = rw sub-one refl
+
+pub form_of-event : (n : ℕ) → form_of (Event n) ≡ EventForm n
+form_of-event n = search (rules, the_lemmas)
+
+pub past-types : (one : Form → List ℕ → Option (Value × List ℕ)) (types : List EventShape) (shape : Shape) (n : ℕ) (text : List ℕ) → shape ≡ Event n → length types ≤ n
+    → form_at one types (form_of shape) text ≡ None
+past-types one types shape n text e le = rw (e, form_of-event, slice_get_past types n le) refl

@@ -1,0 +1,15 @@
+//! Values in the text of an event file.
+#![tactic(auto)]
+
+mod fault;
+mod numbers;
+mod parts;
+mod reading;
+mod scanner;
+#[cfg(test)]
+mod tests;
+mod values;
+
+pub use fault::TextFault;
+pub use parts::behind_blanks;
+pub use reading::value_at;

@@ -1,0 +1,33 @@
+ghost use Rattle.std.specs.Prelude.{◌≤◌, length};
+ghost use Rattle.evt_text.specs.Forms.{form_of, types_in, AreTypes, HasNames, HasKnownFields, HasNoCycle};
+ghost use Rattle.evt_text.specs.Spelling.{FindsValue};
+
+use crate::TextFault;
+use crate::scanner::Scanner;
+use crate::values::value;
+use epl_values::{EventShapes, Shape, Value};
+use std::alloc::Global;
+
+/// The value of this shape with the longest spelling from byte `at` on, and the place behind that spelling.
+/// `NoValue` exactly where none is spelled there.
+pub fn value_at(
+    alloc: Global,
+    text: &str,
+    at: usize,
+    shape: &Shape,
+    types: &EventShapes,
+) -> Result<(Value, usize), TextFault>
+    requires place { at ≤ length text.now }
+    requires shape { AreTypes types.now (types_in (form_of shape.now)) }
+    requires names { HasNames types.now }
+    requires fields { HasKnownFields types.now }
+    requires cycle { HasNoCycle types.now }
+    ensures { FindsValue types.now shape.now text.now at result }
+{
+    if !text.is_char_boundary(at) {
+        return Err(TextFault::NoValue);
+    }
+    let mut scanner = Scanner { rest: &text[at..] };
+    let value = value(alloc, &mut scanner, shape, types, types.len() + 1)?;
+    Ok((value, text.len() - scanner.rest.len()))
+}

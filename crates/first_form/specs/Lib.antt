@@ -1,0 +1,10 @@
+pub mod Reads
+pub mod Words
+pub mod Grammar
+pub mod Parsing
+pub mod Expressions
+pub mod Types
+pub mod Typing
+pub mod Programs
+pub mod Typed
+pub mod Faults
