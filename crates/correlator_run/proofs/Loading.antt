@@ -67,18 +67,22 @@ items-refused {P} view (Some files) now words a b events text seen seen' p why r
     go program (refusal.TooLong name) t = absurd t
     go program (refusal.Program name) t = absurd t
     go program (refusal.Events name line) t =
-        inr ((a, b), named, record {
-          whose = t.0;
-          events = (events, first.0, first.1);
-          short = (text, here.0, here.1);
-          event_bytes = events;
-          event_here = first.0;
-          program_bytes = text;
-          program_here = here.0;
-          program = p;
-          is_program = program.0;
-          only = program.1;
-          refused = t.1;
-          none = t.2;
-        })
+        inr (
+          (a, b),
+          named,
+          record {
+            whose = t.0;
+            events = (events, first.0, first.1);
+            short = (text, here.0, here.1);
+            event_bytes = events;
+            event_here = first.0;
+            program_bytes = text;
+            program_here = here.0;
+            program = p;
+            is_program = program.0;
+            only = program.1;
+            refused = t.1;
+            none = t.2;
+          },
+        )
     go program refusal.Memory t = tt

@@ -8,3 +8,6 @@ mod top;
 
 pub use refusal::Refusal;
 pub use top::{Outcome, correlate_serial};
+
+#[cfg(test)]
+mod tests;

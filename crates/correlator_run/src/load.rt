@@ -41,12 +41,7 @@ fn words_of(alloc: Global, words: &[String]) -> Result<RunWords, Refusal>
 }
 
 /// The bytes of a file, at most so many.
-fn file<H: Shelf>(
-    alloc: Global,
-    shelf: &mut H,
-    name: &Text,
-    most: usize,
-) -> Result<Bytes, Refusal>
+fn file<H: Shelf>(alloc: Global, shelf: &mut H, name: &Text, most: usize) -> Result<Bytes, Refusal>
     ensures told { IfSome (files_of (H.told shelf.old)) (λ files. FileTold (files name.now) name.now most result) }
     ensures within { IfOk result (λ bytes. length bytes ≤ most) }
     ensures never_words { IfErr result (λ why. is_words why ≡ false) }
@@ -81,12 +76,7 @@ fn program_of(alloc: Global, name: &Text, bytes: &[u8]) -> Result<Program, Refus
     }
 }
 
-fn items_of(
-    alloc: Global,
-    name: &Text,
-    program: &Program,
-    bytes: &[u8],
-) -> Result<Items, Refusal>
+fn items_of(alloc: Global, name: &Text, program: &Program, bytes: &[u8]) -> Result<Items, Refusal>
     requires types { AreEventTypes program.now.types }
     requires few { length bytes.now ≤ 8388608 }
     ensures { ItemsTold program.now.types bytes.now name.now result }

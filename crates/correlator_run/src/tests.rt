@@ -1,15 +1,14 @@
 use crate::correlate_serial;
 use epl_values::{Bytes, List, Text};
-use outside::{
-    Calls, HonestShelf, HonestSink, MemoryShelf, MemorySink, StoredFile, StoredFiles,
-};
+use outside::{Calls, HonestShelf, HonestSink, MemoryShelf, MemorySink, StoredFile, StoredFiles};
 use std::alloc::{AllocError, Global};
 use std::process::Abort;
 use std::test::Fail;
 
 const UP: &str = "monitor M { action onload() { print \"up\"; } }";
 
-const FIELDS: &str = "event E { integer n; string s; } monitor M { action onload() { on all E() as e { print e.s + \" \" + e.n.toString(); } } }";
+const FIELDS: &str =
+    "event E { integer n; string s; } monitor M { action onload() { on all E() as e { print e.s + \" \" + e.n.toString(); } } }";
 
 const COMMAND: [&str; 5] = ["run", "--serial", "--events", "e.evt", "m.mon"];
 
@@ -45,11 +44,7 @@ fn stored(alloc: Global, name: &str, bytes: &[u8]) -> Result<StoredFile, AllocEr
     })
 }
 
-fn files(
-    alloc: Global,
-    program: Option<&str>,
-    events: &[u8],
-) -> Result<StoredFiles, AllocError> {
+fn files(alloc: Global, program: Option<&str>, events: &[u8]) -> Result<StoredFiles, AllocError> {
     let mut files = List::new(alloc);
     files.push(stored(alloc, "e.evt", events)?)?;
     if let Some(program) = program {

@@ -76,7 +76,11 @@ fn any_spent(contexts: &[ContextRecord]) -> bool
 fn status_done(kept: &Record) -> u8
     ensures { result ≡ status_done kept.now }
 {
-    if any_spent(kept.contexts.as_slice()) { 7 } else { 0 }
+    if any_spent(kept.contexts.as_slice()) {
+        7
+    } else {
+        0
+    }
 }
 
 /// Writes the report, and tells what became of it.

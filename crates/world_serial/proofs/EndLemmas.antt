@@ -1,11 +1,11 @@
 -- The record at the end.
-use Rattle.std.proofs.Common.{◌≡◌, ℕ, zero, suc, ◌+◌, ◌<◌, ◌≤◌, List, [], ◌∷◌, ◌++◌, Bool, true, false, cond, not, ◌==◌, refl, sym, ◌∙◌, ap, subst, arith, map, filter, length, drop, append_assoc}
-use Rattle.std.proofs.lemmas.Bool.{eqb-true, eqb-false, eq-eqb, ne_eqb}
+use Rattle.std.proofs.Common.{◌≡◌, ℕ, zero, suc, ◌+◌, ◌<◌, ◌≤◌, List, [], ◌∷◌, ◌++◌, Bool, true, false, cond, not, ◌==◌, refl, sym, ◌∙◌, ap, subst, arith, map, length, drop, append_assoc}
+use Rattle.std.proofs.lemmas.Bool.{eqb-true}
 use Rattle.actor_theory.specs.declared.entry.Entry.{Entry}
 use Rattle.actor_theory.specs.Language.{by}
 use Rattle.actor_theory.specs.Order.{ordered}
 use Rattle.actor_theory.specs.Kept as kept
-use Rattle.actor_theory.specs.Machine.{Cell, ReaderCell, queue_at, slots_kept, kept_of}
+use Rattle.actor_theory.specs.Machine.{Cell, queue_at, slots_kept, kept_of}
 use Rattle.actor_theory.proofs.Looping.{machine-scheduled}
 use Rattle.actor_theory.proofs.Keeping.{scheduled-kept}
 use Rattle.naive_meaning.specs.declared.program.Program.{Program}

@@ -1,10 +1,10 @@
 -- Sends to the main context, and queues that stay.
-use Rattle.std.proofs.Common.{◌≡◌, ℕ, zero, suc, ◌+◌, ◌<◌, List, [], ◌∷◌, ◌++◌, Bool, true, false, cond, ◌==◌, nat_lt, Option, Some, None, refl, sym, ◌∙◌, ap, arith, map, filter, length, slice_get, slice_set}
+use Rattle.std.proofs.Common.{◌≡◌, ℕ, zero, suc, ◌<◌, List, [], ◌∷◌, ◌++◌, refl, sym, ◌∙◌, ap, arith, map, length, slice_set}
 use Rattle.std.proofs.lemmas.List.{append-nil}
 use Rattle.std.proofs.lemmas.Bool.{ne_eqb, eq-eqb, lt-ltb}
 use Rattle.std.specs.List.{AllByRecursion}
 use Rattle.actor_theory.specs.declared.entry.Entry.{Entry}
-use Rattle.actor_theory.specs.Language.{Sent, stamped, is_for, mail}
+use Rattle.actor_theory.specs.Language.{Sent, stamped, mail}
 use Rattle.actor_theory.specs.Joined.{slots_only}
 use Rattle.actor_theory.specs.Machine.{queue_at, arrived, delivered}
 

@@ -1,13 +1,11 @@
 -- The parts at the start, and after boot.
-use Rattle.std.proofs.Common.{◌≡◌, ℕ, zero, suc, ◌+◌, ◌<◌, ◌≤◌, List, [], ◌∷◌, ◌++◌, Bool, true, false, refl, sym, ◌∙◌, ap, subst, ◌⊎◌, arith, map, length, get_or, slice_set}
+use Rattle.std.proofs.Common.{◌≡◌, ℕ, zero, suc, ◌+◌, ◌<◌, List, [], ◌∷◌, ◌++◌, false, refl, sym, ◌∙◌, ap, subst, ◌⊎◌, arith, map, length, get_or, slice_set}
 use Rattle.std.specs.List.{AllByRecursion}
 use Rattle.actor_theory.specs.declared.entry.Entry.{Entry}
 use Rattle.actor_theory.specs.Language.{Sent, stamped}
 use Rattle.actor_theory.specs.World.{World as Moment, IsFinished}
-use Rattle.actor_theory.specs.Faithful.{IsBoot}
-use Rattle.actor_theory.specs.Joined.{slots_only}
 use Rattle.actor_theory.specs.Machine.{Cell, ReaderCell, world_of, Stand, empty_queues, fresh_cells, fresh_reader, loaded_queues, without_items}
-use Rattle.actor_theory.proofs.Beginning.{fresh-stand, without-stand}
+use Rattle.actor_theory.proofs.Beginning.{fresh-stand}
 use Rattle.actor_theory.proofs.Looping.{machine-boot}
 use Rattle.naive_meaning.specs.declared.program.Program.{Program}
 use Rattle.naive_meaning.specs.declared.context.Context.{Context}

@@ -1,9 +1,9 @@
 -- The turns of slots and reader.
-use Rattle.std.proofs.Common.{◌≡◌, ℕ, suc, ◌+◌, ◌<◌, ◌≤◌, List, [], ◌∷◌, ◌++◌, Bool, true, false, Option, Some, None, refl, sym, ◌∙◌, ap, subst, arith, length, get_or, slice_get, slice_set}
+use Rattle.std.proofs.Common.{◌≡◌, ℕ, ◌+◌, ◌<◌, List, [], ◌∷◌, ◌++◌, Bool, true, false, Some, None, refl, sym, ◌∙◌, ap, subst, arith, length, get_or, slice_set}
 use Rattle.std.proofs.lemmas.Option.{slice_get_read}
 use Rattle.std.proofs.lemmas.List.{get_or_default}
 use Rattle.actor_theory.specs.declared.entry.Entry.{Entry}
-use Rattle.actor_theory.specs.Language.{Sent, number_after}
+use Rattle.actor_theory.specs.Language.{number_after}
 use Rattle.actor_theory.specs.World.{turn_of}
 use Rattle.actor_theory.specs.Joined.{slots_only}
 use Rattle.actor_theory.specs.Machine.{Cell, ReaderCell, queue_at, world_of, Stand, Stepped, cell_after, reader_after_entry, delivered}
@@ -17,7 +17,7 @@ use Rattle.naive_meaning.specs.Actors.{contexts_of, reader_of, item_sends}
 use Rattle.source_actor.specs.Steps.{first_entry, after_first, item_entry}
 use Rattle.world_serial.specs.Queued.{first_of, rest_of}
 use Rattle.world_serial.specs.Serial.{actors_of}
-use Rattle.world_serial.proofs.Sends.{ToMain, arrived-none, delivered-main, set-same}
+use Rattle.world_serial.proofs.Sends.{arrived-none, delivered-main, set-same}
 
 -- a program of nothing
 pub no_program : Program

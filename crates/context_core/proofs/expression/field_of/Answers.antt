@@ -1,4 +1,4 @@
-use Rattle.std.proofs.Common.{◌≡◌, ◌∙◌, ap, sym, slice_get}
+use Rattle.std.proofs.Common.{◌∙◌, ap, sym, slice_get}
 use Rattle.epl_values.specs.declared.value.Value.TheVariants.{outs-Event}
 use Rattle.naive_meaning.specs.Expressions.{fields_in}
 use Rattle.context_core.proofs.expression.field_of.Goals as goal

@@ -1,4 +1,3 @@
-use Rattle.world_serial.specs.Queued.{records_of}
 use Rattle.world_serial.proofs.EndLemmas.{records-more}
 use Rattle.world_serial.proofs.finish.records.Goals as goal
 

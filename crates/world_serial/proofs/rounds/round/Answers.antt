@@ -1,4 +1,4 @@
-use Rattle.std.proofs.Common.{◌≡◌, ℕ, ◌≤◌, ◌<◌, ◌∙◌, refl, arith}
+use Rattle.std.proofs.Common.{◌≡◌, ◌≤◌, ◌∙◌, refl, arith}
 use Rattle.world_serial.specs.Serial.{moment_of}
 use Rattle.world_serial.proofs.RoundLemmas.{turn-more, round-over}
 use Rattle.world_serial.proofs.rounds.round.Goals as goal

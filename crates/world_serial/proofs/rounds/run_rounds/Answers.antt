@@ -1,4 +1,4 @@
-use Rattle.std.proofs.Common.{◌≡◌, ◌∙◌}
+use Rattle.std.proofs.Common.{◌∙◌}
 use Rattle.world_serial.proofs.RoundLemmas.{round-more, rounds-over}
 use Rattle.world_serial.proofs.rounds.run_rounds.Goals as goal
 

@@ -1,4 +1,4 @@
-use Rattle.std.proofs.Common.{◌≡◌, ◌+◌, ◌∙◌, ap, refl, List, []}
+use Rattle.std.proofs.Common.{◌+◌, ◌∙◌, ap, refl, List, []}
 use Rattle.naive_meaning.specs.declared.entry.Item.{Item}
 use Rattle.world_serial.proofs.StartLemmas.{queues-loaded}
 use Rattle.world_serial.proofs.start.begin.Goals as goal

@@ -1,4 +1,4 @@
-use Rattle.std.proofs.Common.{◌≡◌, refl, sym, ◌∙◌, ap}
+use Rattle.std.proofs.Common.{refl, sym, ◌∙◌, ap}
 use Rattle.actor_theory.specs.Machine.{ReaderCell}
 use Rattle.naive_meaning.specs.declared.entry.Cargo.{Cargo}
 use Rattle.naive_meaning.specs.declared.entry.Item.{Item}

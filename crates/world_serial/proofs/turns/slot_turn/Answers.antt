@@ -1,4 +1,4 @@
-use Rattle.std.proofs.Common.{◌≡◌, sym, ◌∙◌}
+use Rattle.std.proofs.Common.{sym, ◌∙◌}
 use Rattle.world_serial.proofs.TurnLemmas.{alive-again, turn-spent, turn-idle, turn-handled}
 use Rattle.world_serial.proofs.turns.slot_turn.Goals as goal
 

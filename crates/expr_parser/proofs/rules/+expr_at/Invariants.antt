@@ -1,0 +1,4 @@
+use Rattle.expr_parser.proofs.rules.+expr_at.Given as goal
+
+abbrev pub decreases-expr_at : goal.decreases-expr_at
+decreases-expr_at l = l.depth

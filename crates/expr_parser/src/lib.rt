@@ -1,0 +1,22 @@
+//! A parser of types and expressions.
+#![tactic(auto)]
+
+mod arithmetic;
+mod literal;
+mod logic;
+pub mod operator;
+mod parser;
+mod part;
+mod postfix;
+mod primary;
+mod rules;
+#[cfg(test)]
+mod tests;
+pub mod token;
+mod types;
+mod word;
+
+pub use parser::{ParseFault, expression};
+pub use part::Part;
+pub use rules::{arguments_at, expr_at};
+pub use types::{MAX_DEPTH, type_at};
