@@ -1,0 +1,9 @@
+pub mod Sees
+pub mod Turns
+pub mod Items
+pub mod Overlaps
+pub mod Laws
+pub mod UnitLaws
+pub mod Whole
+pub mod Cut
+pub mod Tells

@@ -1,0 +1,8 @@
+use Rattle.std.proofs.Common.{◌≡◌, ◌-◌, [], length}
+use Rattle.grammar_forms.specs.Reader.{many}
+use Rattle.decl_parser.specs.Declaring.{declaration_at}
+use Rattle.decl_parser.proofs.program.declarations.Given as goal
+
+abbrev pub invariant-items : goal.invariant-items
+invariant-items l =
+    let step = declaration_at l.tokens in many step (l._turn-end - l._turn) l.at l.found ≡ many step (length l.tokens) 0 []

@@ -1,0 +1,26 @@
+//! A parser of statements, declarations and whole program files.
+#![tactic(auto)]
+
+mod action;
+mod assigned;
+mod call;
+mod choice;
+mod command;
+mod event;
+mod event_decl;
+mod level;
+mod listening;
+mod monitor;
+mod part;
+mod pieces;
+mod place;
+mod program;
+mod region;
+mod rules;
+mod stmt;
+#[cfg(test)]
+mod tests;
+mod word;
+
+pub use expr_parser::ParseFault;
+pub use program::unit;

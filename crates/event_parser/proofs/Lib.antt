@@ -1,0 +1,5 @@
+pub mod Continued
+pub mod Unless
+pub mod ConstraintLaws
+pub mod TemplateLaws
+pub mod Laws
