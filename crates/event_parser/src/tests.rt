@@ -210,25 +210,32 @@ fn rest_outline(out: &mut Text, trees: &EventExprs) -> Result<(), AllocError> {
     out.push("}")
 }
 
+fn outlined(alloc: Global, tree: &EventExpr) -> Result<Text, AllocError> {
+    let mut out = Text::new(alloc);
+    outline(&mut out, tree)?;
+    Ok(out)
+}
+
+fn at(text: Result<Text, AllocError>, place: usize) -> Result<(Text, usize), AllocError> {
+    Ok((text?, place))
+}
+
+fn told_of(alloc: Global, tokens: &Tokens) -> Result<(Text, usize), AllocError> {
+    if tokens.len() == 0 {
+        return at(Text::of(alloc, "none"), 0);
+    }
+    match event_expression(alloc, tokens, 0) {
+        Ok((tree, end)) => at(outlined(alloc, &tree), end),
+        Err(ParseFault::Syntax(spot)) => at(Text::of(alloc, "fault"), spot.column as usize),
+        Err(ParseFault::Memory) => Err(AllocError),
+    }
+}
+
 /// The outline of the event expression at the first word, and the number of the word behind it; or that of the fault's
 /// spot.
 fn told(alloc: Global, text: &str) -> Result<(Text, usize), AllocError> {
     let tokens = tokens_of(alloc, text)?;
-    let mut out = Text::new(alloc);
-    if tokens.len() == 0 {
-        return Ok((out, 0));
-    }
-    match event_expression(alloc, &tokens, 0) {
-        Ok((tree, end)) => {
-            outline(&mut out, &tree)?;
-            Ok((out, end))
-        }
-        Err(ParseFault::Syntax(spot)) => {
-            out.push("fault")?;
-            Ok((out, spot.column as usize))
-        }
-        Err(ParseFault::Memory) => Err(AllocError),
-    }
+    told_of(alloc, &tokens)
 }
 
 /// Whether the first event expression of the text has the outline and ends behind so many words.
