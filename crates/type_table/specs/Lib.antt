@@ -1,0 +1,10 @@
+pub mod Found
+pub mod Names
+pub mod Types
+pub mod Table
+pub mod Scopes
+pub mod Kinds
+pub mod Chains
+pub mod Depths
+pub mod Heads
+pub mod Gathers
