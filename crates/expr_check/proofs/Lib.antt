@@ -1,0 +1,2 @@
+pub mod LeadingSteps
+pub mod Parts

@@ -1,0 +1,4 @@
+pub mod Then
+pub mod Through
+pub mod Codes
+pub mod Digits

@@ -1,0 +1,10 @@
+pub mod Then
+pub mod Shapes
+pub mod Asked
+pub mod Places
+pub mod Operators
+pub mod Names
+pub mod Literals
+pub mod Calls
+pub mod Methods
+pub mod Postfix
