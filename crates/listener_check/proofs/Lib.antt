@@ -1,0 +1,4 @@
+pub mod Going
+pub mod Forms
+pub mod Digits
+pub mod Lasts

@@ -1,0 +1,12 @@
+use Rattle.std.proofs.Common.{◌∙◌}
+use Rattle.listener_check.specs.Terms.{wait_read}
+use Rattle.listener_check.proofs.Going.{on-part, goes-on, goes-fail}
+use Rattle.listener_check.proofs.reader.Reader.wait.Goals as goal
+
+pub returns : goal.returns
+unfolding wait_read
+returns c = on-part _ _ _ _ c.in_ok-count_leaf.ensures ∙ on-part _ _ _ _ c.in_ok-at.ensures
+
+pub returns-in_err-at : goal.returns-in_err-at
+unfolding wait_read
+returns-in_err-at c = goes-on _ _ _ _ _ _ c.in_ok-count_leaf.ensures (goes-fail _ _ _ _ _ c.from_residual-in_err-at.ensures.1 c.in_err-at.ensures)

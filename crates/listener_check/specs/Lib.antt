@@ -1,0 +1,10 @@
+pub mod Went
+pub mod Names
+pub mod Bound
+pub mod Limits
+pub mod Values
+pub mod Operands
+pub mod Constraints
+pub mod Durations
+pub mod Templates
+pub mod Terms

@@ -1,0 +1,29 @@
+ghost use Rattle.expr_check.specs.Checks.{Checks, file_of};
+ghost use Rattle.listener_check.specs.Terms.{term_found};
+
+use crate::terms::term;
+use epl_tree::EventExpr;
+use expr_check::file_of;
+use std::alloc::Global;
+use type_table::{CheckFault, Refusal, Scope, Table};
+use typed_program::TypedTerm;
+
+/// Checks an event expression of a monitor: the typed term, or exactly its first fault.
+pub fn check_listener(
+    alloc: Global,
+    table: &Table,
+    scope: &Scope,
+    tree: &EventExpr,
+) -> Result<TypedTerm, CheckFault>
+    ensures { Checks (file_of table.now scope.now.monitor) result (term_found table.now scope.now tree.now) }
+{
+    match term(alloc, table, scope, tree) {
+        Ok(typed) => Ok(typed),
+        Err(Refusal::Fault(fault)) => Err(CheckFault::Typing(
+            fault.code,
+            file_of(table, scope.monitor),
+            fault.spot,
+        )),
+        Err(Refusal::Memory) => Err(CheckFault::Memory),
+    }
+}
