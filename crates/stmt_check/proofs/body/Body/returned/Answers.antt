@@ -1,0 +1,11 @@
+use Rattle.stmt_check.proofs.Going.{goes_bind, goes_stop, goes_err, goes_pure, goes_tells}
+use Rattle.stmt_check.proofs.body.Body.returned.Goals as goal
+
+pub returns : goal.returns
+returns c = goes_bind _ (goes_tells _ _ _ c.in_ok-fits.ensures) (goes_bind _ c.in_ok-value.ensures (goes_pure _ _))
+
+pub returns-in_err-fits : goal.returns-in_err-fits
+returns-in_err-fits c = goes_err _ c.from_residual.ensures.1 (goes_stop _ _ (goes_tells _ _ _ c.in_err-fits.ensures))
+
+pub returns-in_err-value : goal.returns-in_err-value
+returns-in_err-value c = goes_err _ c.from_residual-in_err-value.ensures.1 (goes_bind _ (goes_tells _ _ _ c.in_ok-fits.ensures) (goes_stop _ _ c.in_err-value.ensures))

@@ -1,0 +1,10 @@
+use typed_program::{Actions, Globals, Monitors, Sites};
+
+/// What is made of a program so far, with the globals of the monitor that is being read.
+#[derive(Drop)]
+pub(crate) struct Made {
+    pub monitors: Monitors,
+    pub globals: Globals,
+    pub actions: Actions,
+    pub sites: Sites,
+}
