@@ -1,14 +1,16 @@
 ghost use Rattle.std.specs.Prelude.{◌≡◌, ◌==◌, not, filter, OnOk};
-ghost use Rattle.naive_meaning.specs.Bodies.{Print, Listen, effect_of, effects_of};
+ghost use Rattle.naive_meaning.specs.Bodies.{Print, Listen, effects_in, effects_of};
 ghost use Rattle.naive_meaning.specs.Contexts.{apply, apply_all, settled, is_busy};
 ghost use Rattle.naive_meaning.specs.Expressions.{text_in};
 ghost use Rattle.naive_meaning.specs.Turns.{ran};
+ghost use Rattle.typed_program.specs.declared.statement.Stmt.{out-Stmt};
 
 use crate::expression::{Frame, text_in};
 use epl_values::{List, Memory, Text, Value};
-use naive_meaning::{Context, Instance, Line, Listener, Stmt};
+use naive_meaning::{Context, Instance, Line, Listener};
 use std::alloc::Global;
 use std::mem;
+use typed_program::Stmt;
 
 fn print(alloc: Global, context: &mut Context, instance: u64, value: &Value) -> Result<(), Memory>
     ensures { OnOk result (context.new ≡ apply instance (Print (text_in value.now)) context.old) }
@@ -39,7 +41,7 @@ fn perform(
     instance: u64,
     stmt: &Stmt,
 ) -> Result<(), Memory>
-    ensures { OnOk result (context.new ≡ apply instance (effect_of frame.now.locals.now stmt.now) context.old) }
+    ensures { OnOk result (context.new ≡ apply_all instance (effects_in frame.now.locals.now (out-Stmt stmt.now)) context.old) }
 {
     match stmt {
         Stmt::Print(expr) => {
@@ -47,9 +49,11 @@ fn perform(
             print(frame.alloc, context, instance, &value)
         }
         Stmt::On(site) => listen(context, instance, *site),
+        _ => Ok(()),
     }
 }
 
+#[tactic(auto, using(crate::proofs::Effects::apply_all_both))]
 fn perform_all(
     frame: &Frame<'_>,
     context: &mut Context,

@@ -1,16 +1,16 @@
 ghost use Rattle.std.specs.Prelude.{◌≡◌, ◌<◌, ◌^◌, ◌+◌, [], ◌∷◌, if◌then◌else◌, IfOk, OnOk, slice_get};
 ghost use Rattle.std.specs.Option.{option_copied};
 ghost use Rattle.naive_meaning.specs.Contexts.{settled};
-ghost use Rattle.naive_meaning.specs.Turns.{fits, type_in, site_fits, site_body, action_body, onload_body, is_live, stepped, turn, with_instance, handled, handle, ran};
+ghost use Rattle.naive_meaning.specs.Turns.{fits, is_of_type, is_of_template, type_in, site_fits, site_body, action_body, onload_body, is_live, stepped, turn, with_instance, handled, handle, ran};
 ghost use Rattle.epl_values.specs.declared.value.Value.{out-Value};
+ghost use Rattle.typed_program.specs.declared.term.Term.{out-Term};
 ghost use Rattle.naive_meaning.specs.declared.entry.Cargo.TheVariants.{Load, Event};
 
 use crate::body::run;
 use epl_values::{Memory, Value, copy};
-use naive_meaning::{
-    Action, Cargo, Context, Instance, Listener, Monitor, Program, Site, Stmt, Term,
-};
+use naive_meaning::{Cargo, Context, Instance, Listener};
 use std::alloc::Global;
+use typed_program::{Action, Monitor, Program, Site, Stmt, Term};
 
 /// The greatest number of a handling.
 const LAST_NUMBER: u64 = 1 << 62;
@@ -24,13 +24,30 @@ fn type_of(value: &Value) -> Option<u16>
     }
 }
 
-fn fits(term: Term, event: &Value) -> bool
-    ensures { result ≡ fits term event.now }
+fn is_of_type(number: u16, event: &Value) -> bool
+    ensures { result ≡ is_of_type number (type_in (out-Value event.now)) }
 {
-    let Term::All(template) = term;
     match type_of(event) {
         None => false,
-        Some(number) => number == template.event,
+        Some(other) => other == number,
+    }
+}
+
+fn is_of_template(term: &Term, event: &Value) -> bool
+    ensures { result ≡ is_of_template (out-Term term.now) event.now }
+{
+    match term {
+        Term::Template(template) => is_of_type(template.event, event),
+        _ => false,
+    }
+}
+
+fn fits(term: &Term, event: &Value) -> bool
+    ensures { result ≡ fits term.now event.now }
+{
+    match term {
+        Term::All(inner) => is_of_template(inner.get(), event),
+        _ => false,
     }
 }
 
@@ -39,7 +56,7 @@ fn site_fits(site: Option<&Site>, event: &Value) -> bool
 {
     match site {
         None => false,
-        Some(site) => fits(site.term, event),
+        Some(site) => fits(&site.term, event),
     }
 }
 

@@ -3,11 +3,11 @@ use Rattle.std.proofs.Common.{◌≡◌, ℕ, ◌+◌, ◌-◌, ◌^◌, ◌<◌
 use Rattle.std.proofs.lemmas.Option.{same_Some, none-some}
 use Rattle.outside.specs.Answers.{Moved}
 use Rattle.outside.specs.Counts.{Rose}
-use Rattle.naive_meaning.specs.declared.program.Program.{Program}
+use Rattle.typed_program.specs.declared.program.Program.{Program}
 use Rattle.naive_meaning.specs.declared.entry.Item.{Item}
 use Rattle.naive_meaning.specs.declared.record.Record.{Record}
 use Rattle.evt_reader.specs.Files.{AreItems}
-use Rattle.first_form.specs.Programs.{IsProgram}
+use Rattle.program_reader.specs.Programs.{IsProgram}
 use Rattle.run_face.specs.Words.{named_files}
 use Rattle.correlator_run.specs.declared.refusal.Refusal.{Refusal}
 use Rattle.correlator_run.specs.declared.refusal.Refusal.TheVariants as refusal
@@ -47,7 +47,7 @@ no-cause files words p items named (refusal.TooLong name) input at cause memory 
   | inl h ↦ not-longer files named.0 input.event_name input.event_bytes most_events (first-named words named _ _ at input.named) input.event_here input.event_short h.1
   | inr h ↦ not-longer files named.1 input.program_name input.program_bytes most_program (second-named words named _ _ at input.named) input.program_here input.program_short h.2
 ]
-no-cause files words p items named (refusal.Program name) input at cause memory read =
+no-cause files words p items named (refusal.Program name fault) input at cause memory read =
     let same : cause.bytes ≡ input.program_bytes = same_Some _ _ (sym cause.here ∙ ap files (second-named words named _ _ at input.named) ∙ input.program_here) in
     cause.none p (subst (λ bytes. IsProgram bytes p) (sym same) input.is_program)
 no-cause files words p items named (refusal.Events name line) input at cause memory read =
@@ -80,6 +80,6 @@ refused-complete {P} view (Some files) words why status m finishes counts is sta
     go p items input (refusal.Missing name) f c s = absurd (no-refusal files words p items (refusal.Missing name) input f (λ e. absurd (cc)) (λ n e. absurd (cc)))
     go p items input (refusal.Read name) f c s = absurd (rose-stayed m.faults_before m.faults_now c.1 stayed)
     go p items input (refusal.TooLong name) f c s = absurd (no-refusal files words p items (refusal.TooLong name) input f (λ e. absurd (cc)) (λ n e. absurd (cc)))
-    go p items input (refusal.Program name) f c s = absurd (no-refusal files words p items (refusal.Program name) input f (λ e. absurd (cc)) (λ n e. absurd (cc)))
+    go p items input (refusal.Program name fault) f c s = absurd (no-refusal files words p items (refusal.Program name fault) input f (λ e. absurd (cc)) (λ n e. absurd (cc)))
     go p items input (refusal.Events name line) f c s = absurd (no-refusal files words p items (refusal.Events name line) input f (λ e. absurd (cc)) (λ n e. absurd (cc)))
     go p items input refusal.Memory f c s = inr (inr s)

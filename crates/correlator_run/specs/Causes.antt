@@ -3,10 +3,11 @@ use Rattle.std.specs.Prelude.{◌≡◌, ℕ, ◌≤◌, ◌⊎◌, List, Bool, 
 use Rattle.outside.specs.Answers.{Moved}
 use Rattle.outside.specs.Counts.{Rose}
 use Rattle.outside.specs.Told.{Told}
-use Rattle.naive_meaning.specs.declared.program.Program.{Program}
+use Rattle.typed_program.specs.declared.program.Program.{Program}
 use Rattle.naive_meaning.specs.declared.entry.Item.{Item}
 use Rattle.evt_reader.specs.Files.{AreItems, IsRefusedLine}
-use Rattle.first_form.specs.Programs.{IsProgram}
+use Rattle.program_reader.specs.declared.fault.ProgramFault.{ProgramFault}
+use Rattle.program_reader.specs.Programs.{IsProgram, IsCause as IsProgramCause}
 use Rattle.run_face.specs.Words.{named_files}
 use Rattle.correlator_run.specs.declared.refusal.Refusal.{Refusal}
 use Rattle.correlator_run.specs.declared.refusal.Refusal.TheVariants as refusal
@@ -31,13 +32,14 @@ IsTooLong files named name =
 abbrev pub IsUnread : Files → List ℕ × List ℕ → List ℕ → Type 0
 IsUnread files named name = (name ≡ named.0) ⊎ ((name ≡ named.1) × IsPresent (files named.0) most_events)
 
--- both files are there and short enough, and the program file has no program
-pub record IsUnbuilt (files : Files) (named : List ℕ × List ℕ) (name : List ℕ) : Type 0 where
+-- both files are there and short enough, and the program file has no program, for this cause
+pub record IsProgramRefused (files : Files) (named : List ℕ × List ℕ) (name : List ℕ) (why : ProgramFault) : Type 0 where
   pub whose : name ≡ named.1
   pub events : IsPresent (files named.0) most_events
   pub short : IsPresent (files named.1) most_program
   pub bytes : List ℕ
   pub here : files named.1 ≡ Some bytes
+  pub cause : IsProgramCause bytes why
   pub none : (p : Program) → IsProgram bytes p → ⊥
 
 -- both files are there and short enough, the one program is there, and the event file has this line as the first that is refused
@@ -61,7 +63,7 @@ IsCause files named refusal.Words = ⊥
 IsCause files named (refusal.Missing name) = IsMissing files named name
 IsCause files named (refusal.Read name) = IsUnread files named name
 IsCause files named (refusal.TooLong name) = IsTooLong files named name
-IsCause files named (refusal.Program name) = IsUnbuilt files named name
+IsCause files named (refusal.Program name why) = IsProgramRefused files named name why
 IsCause files named (refusal.Events name line) = IsLineRefused files named name line
 IsCause files named refusal.Memory = Unit {0}
 

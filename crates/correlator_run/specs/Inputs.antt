@@ -1,9 +1,9 @@
 -- What the words and the files give to a run.
 use Rattle.std.specs.Prelude.{◌≡◌, ℕ, ◌<◌, ◌≤◌, List, length, Option, Some}
-use Rattle.naive_meaning.specs.declared.program.Program.{Program}
+use Rattle.typed_program.specs.declared.program.Program.{Program}
 use Rattle.naive_meaning.specs.declared.entry.Item.{Item}
 use Rattle.evt_reader.specs.Files.{AreItems}
-use Rattle.first_form.specs.Programs.{IsProgram}
+use Rattle.program_reader.specs.Programs.{IsProgram}
 use Rattle.run_face.specs.Words.{named_files}
 
 -- what a shelf has at each name

@@ -2,7 +2,7 @@
 use Rattle.std.specs.Prelude.{◌≡◌, ◌≢◌, ℕ, ◌^◌, ◌-◌, ◌<◌, ◌≤◌, ◌⊎◌, List, [], ◌++◌, length, take, Bool, if◌then◌else◌, Option, Some, None, IfSome}
 use Rattle.std.specs.List.{list_any}
 use Rattle.std.specs.Option.{option_map}
-use Rattle.naive_meaning.specs.declared.program.Program.{Program}
+use Rattle.typed_program.specs.declared.program.Program.{Program}
 use Rattle.naive_meaning.specs.declared.entry.Item.{Item}
 use Rattle.naive_meaning.specs.declared.record.Record.{Record}
 use Rattle.naive_meaning.specs.Records.{IsFaithful, IsScheduled}
@@ -35,7 +35,7 @@ status_of refusal.Words = 1
 status_of (refusal.Missing name) = 8
 status_of (refusal.Read name) = 5
 status_of (refusal.TooLong name) = 9
-status_of (refusal.Program name) = 2
+status_of (refusal.Program name why) = 2
 status_of (refusal.Events name line) = 3
 status_of refusal.Memory = 4
 

@@ -1,10 +1,12 @@
 -- What the steps of loading tell.
 use Rattle.std.specs.Prelude.{◌≡◌, ℕ, ◌<◌, ◌≤◌, List, length, Option, Some, None, Result, Ok, Err}
 use Rattle.epl_values.specs.declared.shape.EventShape.{EventShape}
-use Rattle.naive_meaning.specs.declared.program.Program.{Program}
+use Rattle.typed_program.specs.declared.program.Program.{Program}
 use Rattle.naive_meaning.specs.declared.entry.Item.{Item}
 use Rattle.evt_reader.specs.Files.{AreItems, IsRefusedLine}
-use Rattle.first_form.specs.Programs.{IsProgram}
+use Rattle.program_reader.specs.declared.fault.ProgramFault.{ProgramFault}
+use Rattle.program_reader.specs.declared.fault.ProgramFault.TheVariants as fault
+use Rattle.program_reader.specs.Programs.{IsProgram, IsCause}
 use Rattle.run_face.specs.declared.words.RunWords.{RunWords}
 use Rattle.run_face.specs.Words.{named_files, default_settings}
 use Rattle.correlator_run.specs.declared.refusal.Refusal.{Refusal}
@@ -26,10 +28,15 @@ FileTold file name most (Err (refusal.TooLong long)) = (long ≡ name) × (bytes
 FileTold file name most (Err refusal.Memory) = Unit {0}
 FileTold file name most (Err why) = ⊥
 
--- the one program of these bytes, or that there is none
+-- a file without a program is refused by its name and the cause; want of memory has no name
+abbrev pub refused : List ℕ → ProgramFault → Refusal
+refused name fault.Memory = refusal.Memory
+refused name why = refusal.Program name why
+
+-- the one program of these bytes, or why there is none
 abbrev pub ProgramTold : List ℕ → List ℕ → Result Program Refusal → Type 0
 ProgramTold bytes name (Ok p) = IsProgram bytes p × ((q : Program) → IsProgram bytes q → q ≡ p)
-ProgramTold bytes name (Err (refusal.Program refused)) = (refused ≡ name) × ((p : Program) → IsProgram bytes p → ⊥)
+ProgramTold bytes name (Err (refusal.Program refused why)) = (refused ≡ name) × IsCause bytes why × ((p : Program) → IsProgram bytes p → ⊥)
 ProgramTold bytes name (Err refusal.Memory) = Unit {0}
 ProgramTold bytes name (Err why) = ⊥
 

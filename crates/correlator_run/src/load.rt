@@ -1,20 +1,20 @@
 ghost use Rattle.std.specs.Prelude.{◌≡◌, ◌≤◌, length, map, string_bytes, false, IfErr, IfOk, IfSome};
 ghost use Rattle.outside.specs.Told.{files_of};
-ghost use Rattle.first_form.specs.Programs.{IsProgram};
-ghost use Rattle.first_form.specs.Typed.{IsTyped};
+ghost use Rattle.program_reader.specs.Programs.{IsProgram};
 ghost use Rattle.evt_text.specs.Forms.{AreEventTypes};
 ghost use Rattle.run_face.specs.Words.{default_settings};
 ghost use Rattle.correlator_run.specs.Causes.{is_words, Loads, NamesLast, RefusalCounts, WordsTold};
-ghost use Rattle.correlator_run.specs.Steps.{FileTold, ItemsTold, ProgramTold, WordsRead};
+ghost use Rattle.correlator_run.specs.Steps.{FileTold, ItemsTold, ProgramTold, WordsRead, refused};
 
 use crate::Refusal;
 use epl_values::{Bytes, Memory, Text};
 use evt_reader::{LineFault, items};
-use first_form::{ProgramFault, program_from};
-use naive_meaning::{Items, Program, Settings};
+use naive_meaning::{Items, Settings};
 use outside::{FileFault, Shelf, read_whole};
+use program_reader::{ProgramFault, program_from};
 use run_face::{RunWords, WordsFault, read_words};
 use std::alloc::Global;
+use typed_program::Program;
 
 /// The most bytes of an event file.
 const MOST_EVENTS: usize = 8_388_608;
@@ -64,15 +64,26 @@ fn file<H: Shelf>(alloc: Global, shelf: &mut H, name: &Text, most: usize) -> Res
     }
 }
 
+fn refused(name: Text, why: ProgramFault) -> Refusal
+    ensures { result ≡ refused name why }
+{
+    match why {
+        ProgramFault::Memory => Refusal::Memory,
+        _ => Refusal::Program(name, why),
+    }
+}
+
+#[tactic(auto, using(crate::proofs::Loading::told_refused))]
 fn program_of(alloc: Global, name: &Text, bytes: &[u8]) -> Result<Program, Refusal>
+    requires { length bytes.now ≤ 131072 }
     ensures told { ProgramTold bytes.now name.now result }
-    ensures typed { IfOk result IsTyped }
+    ensures types { IfOk result (λ p. AreEventTypes p.types) }
+    ensures monitors { IfOk result (λ p. length p.monitors ≤ 65535) }
 {
     let own_name = Text::of(alloc, name.as_str())?;
     match program_from(alloc, bytes) {
         Ok(program) => Ok(program),
-        Err(ProgramFault::Unbuilt) => Err(Refusal::Program(own_name)),
-        Err(ProgramFault::Memory) => Err(Refusal::Memory),
+        Err(why) => Err(refused(own_name, why)),
     }
 }
 

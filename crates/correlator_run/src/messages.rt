@@ -1,12 +1,66 @@
 use crate::Refusal;
+use epl_values::Text;
 use itoa::Buffer;
 use outside::{Sink, put_all};
+use program_reader::ProgramFault;
+
+/// Puts the parts of a line, one after another, as far as the sink takes them; whether it took them all.
+fn tells<V: Sink>(err: &mut V, parts: &[&str]) -> bool {
+    for part in parts {
+        if put_all(err, part.as_bytes()).is_err() {
+            return false;
+        }
+    }
+    true
+}
 
 /// Puts the parts of a line, one after another, as far as the sink takes them.
 fn tell<V: Sink>(err: &mut V, parts: &[&str]) {
-    for part in parts {
-        if put_all(err, part.as_bytes()).is_err() {
-            return;
+    tells(err, parts);
+}
+
+/// Tells a place in a program file; whether all of it was taken.
+fn tell_place<V: Sink>(err: &mut V, name: &Text, line: u32) -> bool {
+    let mut buffer = Buffer::new();
+    let line = buffer.format(line);
+    tells(
+        err,
+        &["epl: program refused: ", name.as_str(), ":", line, ": "],
+    )
+}
+
+/// Tells a typing fault.
+fn tell_code<V: Sink>(err: &mut V, code: u8) {
+    let mut buffer = Buffer::new();
+    let code = buffer.format(code);
+    tell(err, &["type ", code, "\n"]);
+}
+
+/// Tells why a file has no program.
+fn tell_program<V: Sink>(err: &mut V, name: &Text, why: ProgramFault) {
+    match why {
+        ProgramFault::Lex(spot) => {
+            if tell_place(err, name, spot.line) {
+                tell(err, &["lex\n"]);
+            }
+        }
+        ProgramFault::Syntax(spot) => {
+            if tell_place(err, name, spot.line) {
+                tell(err, &["syntax\n"]);
+            }
+        }
+        ProgramFault::Typing(code, _, spot) => {
+            if tell_place(err, name, spot.line) {
+                tell_code(err, code);
+            }
+        }
+        ProgramFault::Unbuilt => {
+            if tell_place(err, name, 1) {
+                tell(err, &["unbuilt\n"]);
+            }
+        }
+        ProgramFault::Memory => {
+            tell(err, &["epl: no memory\n"]);
         }
     }
 }
@@ -18,10 +72,7 @@ pub fn tell_refusal<V: Sink>(err: &mut V, why: &Refusal) {
         Refusal::Missing(name) => tell(err, &["epl: missing file: ", name.as_str(), "\n"]),
         Refusal::Read(name) => tell(err, &["epl: read fault: ", name.as_str(), "\n"]),
         Refusal::TooLong(name) => tell(err, &["epl: file too long: ", name.as_str(), "\n"]),
-        Refusal::Program(name) => tell(
-            err,
-            &["epl: program refused: ", name.as_str(), ":1: unbuilt\n"],
-        ),
+        Refusal::Program(name, why) => tell_program(err, name, *why),
         Refusal::Events(name, line) => {
             let mut buffer = Buffer::new();
             let line = buffer.format(*line);

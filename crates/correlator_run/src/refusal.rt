@@ -1,5 +1,5 @@
 use epl_values::{Memory, Text};
-use first_form::ProgramFault;
+use program_reader::ProgramFault;
 use run_face::WordsFault;
 
 /// Why there is no run. The texts are names of files.
@@ -13,8 +13,8 @@ pub enum Refusal {
     Read(Text),
     /// A file with more bytes than its limit.
     TooLong(Text),
-    /// A file that has no program of the form that is built.
-    Program(Text),
+    /// A program file that has no program, and why.
+    Program(Text, ProgramFault),
     /// An event file, and the first line of it that is refused, from 1.
     Events(Text, u32),
     Memory,

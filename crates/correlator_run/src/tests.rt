@@ -122,7 +122,35 @@ fn runs_and_refusals(rt: HostRuntime) -> Result<(), Fail> {
             ..DONE
         },
         Row {
+            program: Some("monitor M {\n action onload() {\n print \"up;\n } }"),
+            status: 2,
+            output: "",
+            errors: "epl: program refused: m.mon:3: lex\n",
+            ..DONE
+        },
+        Row {
+            program: Some("monitor M {\n action onload( {\n } }"),
+            status: 2,
+            output: "",
+            errors: "epl: program refused: m.mon:2: syntax\n",
+            ..DONE
+        },
+        Row {
             program: Some("monitor M { }"),
+            status: 2,
+            output: "",
+            errors: "epl: program refused: m.mon:1: type 5\n",
+            ..DONE
+        },
+        Row {
+            program: Some("monitor M {\n action onload() {\n print 1;\n } }"),
+            status: 2,
+            output: "",
+            errors: "epl: program refused: m.mon:3: type 9\n",
+            ..DONE
+        },
+        Row {
+            program: Some("monitor M { action onload() { }\n action f() { } }"),
             status: 2,
             output: "",
             errors: "epl: program refused: m.mon:1: unbuilt\n",

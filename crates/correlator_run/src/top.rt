@@ -61,7 +61,7 @@ fn status_of(why: &Refusal) -> u8
         Refusal::Missing(_) => 8,
         Refusal::Read(_) => 5,
         Refusal::TooLong(_) => 9,
-        Refusal::Program(_) => 2,
+        Refusal::Program(..) => 2,
         Refusal::Events(_, _) => 3,
         Refusal::Memory => 4,
     }

@@ -27,7 +27,8 @@ seen scope name = item_at scope.names (seen_of scope name)
 
 -- 14: a callback names an outer name of reference type
 abbrev pub outer_code : SeenKind → Option Shape → Option ℕ
-outer_code kind.Outer s = if is_known_reference s then Some 14 else None
+outer_code kind.OuterLocal s = if is_known_reference s then Some 14 else None
+outer_code kind.OuterFixed s = if is_known_reference s then Some 14 else None
 outer_code k s = None
 
 abbrev pub variable : SeenKind → ℕ → TypedNode

@@ -66,11 +66,12 @@ given_codes demand root gives.Nothing = void_codes demand.wish
 given_codes demand root gives.Unknown = []
 given_codes demand root (gives.Value s) = key_codes demand.wish s ++ misfit_codes demand.wish s ++ path_codes demand.paths root s
 
--- a co-assignment, or a parameter, loop variable or outer name of reference type: it and what is reached from it stay
+-- a co-assignment, or a parameter or loop variable of reference type, an outer one too: it and what is reached from it stay
 abbrev pub kind_is_fixed : SeenKind → Bool → Bool
 kind_is_fixed kind.Bound reference = true
 kind_is_fixed kind.Global reference = false
 kind_is_fixed kind.Local reference = false
+kind_is_fixed kind.OuterLocal reference = false
 kind_is_fixed k reference = reference
 
 abbrev pub is_fixed : Root → Bool

@@ -6,12 +6,13 @@ ghost use Rattle.expr_rules.specs.Asked.{demand_of, like, wish_of};
 ghost use Rattle.expr_rules.specs.Calls.{next_wanted, argument_of, no_arguments, count_code, field_wants, param_wants, fields_at, callback_code, result_given, event_plan, action_plan, missing_plan, plan_of_action, plan_of, action_in, action_named, callee_node, callee_code, call_stands, context_wants, context_start, context_code, context_stands};
 
 use crate::asked::{Asks, Need, Paths, like};
-use crate::names::{copy_known, short};
 use crate::placed::{Gives, Judged, lower, stands};
 use epl_values::{Fields, List, Shape, copy_shape};
 use span_text::Spot;
 use std::alloc::{AllocError, Global};
-use type_table::{ActionHead, MonitorHead, ParamHeads, Refusal, ResultHead, Scope, Table};
+use type_table::{
+    ActionHead, MonitorHead, ParamHeads, Refusal, ResultHead, Scope, Table, copy_known, short,
+};
 use typed_program::{TypedExprs, TypedNode};
 
 /// What arguments are asked for, in order; `None` is any value.

@@ -5,14 +5,13 @@ ghost use Rattle.expr_rules.specs.Shapes.{is_sequence, is_dictionary};
 ghost use Rattle.expr_rules.specs.Literals.{number_of, greatest, within, integer_value, integer_found, integer_stands, literal_stands, fixed, empty_code, empty_stands, empty_sequence, empty_dictionary, known_first, element_of, no_elements, sequence_given, full_sequence, sequence_of, entry_of, no_entries, dictionary_given, full_dictionary, dictionary_of, key_wish, new_stands, text_stands, boolean_stands, current_stands};
 
 use crate::asked::{Asks, Need};
-use crate::names::copy_known;
 use crate::placed::{Gives, Judged, is_key, placed, stands};
 use crate::shapes::{is_dictionary, is_sequence};
 use epl_values::{List, Shape, Text, copy_shape};
 use span_text::Spot;
 use sqlite_items::Boxed;
 use std::alloc::{AllocError, Global};
-use type_table::Refusal;
+use type_table::{Refusal, copy_known};
 use typed_program::{TypedEntries, TypedEntry, TypedExpr, TypedExprs, TypedNode};
 
 /// Elements of a literal so far, and their shape, if it is known.

@@ -1,4 +1,4 @@
-ghost use Rattle.std.specs.Prelude.{min, ◌≡◌, IfOk};
+ghost use Rattle.std.specs.Prelude.{◌≡◌};
 ghost use Rattle.type_table.specs.Found.{Finds};
 ghost use Rattle.expr_rules.specs.Asked.{demand_of};
 ghost use Rattle.expr_rules.specs.Names.{seen, outer_code, variable, root_of, name_found};
@@ -6,17 +6,17 @@ ghost use Rattle.expr_rules.specs.Names.{seen, outer_code, variable, root_of, na
 use crate::asked::Need;
 use crate::placed::{Gives, Judged, Root, known, stands};
 use crate::shapes::is_known_reference;
-use epl_values::{Shape, copy_shape};
+use epl_values::Shape;
 use span_text::Spot;
-use std::alloc::{AllocError, Global};
-use type_table::{Refusal, Scope, Seen, SeenKind};
+use std::alloc::Global;
+use type_table::{Refusal, Scope, Seen, SeenKind, copy_known};
 use typed_program::TypedNode;
 
 fn outer_code(kind: SeenKind, shape: &Option<Shape>) -> Option<u8>
     ensures { result ≡ outer_code kind shape.now }
 {
     match kind {
-        SeenKind::Outer => {
+        SeenKind::OuterLocal | SeenKind::OuterFixed => {
             if is_known_reference(shape) {
                 Some(14)
             } else {
@@ -43,16 +43,6 @@ fn root_of(seen: &Seen) -> Root
         kind: seen.kind,
         reference: is_known_reference(&seen.shape),
         left: 64,
-    }
-}
-
-/// A copy of a shape, if it is known.
-pub fn copy_known(alloc: Global, shape: &Option<Shape>) -> Result<Option<Shape>, AllocError>
-    ensures { IfOk result (λ s. s ≡ shape.now) }
-{
-    match shape {
-        Some(shape) => Ok(Some(copy_shape(alloc, shape)?)),
-        None => Ok(None),
     }
 }
 
@@ -102,11 +92,4 @@ pub fn name_of(
             Some(seen) => variable_of(alloc, spot, need, seen),
         },
     }
-}
-
-/// A number; one past 65,535 counts as that.
-pub fn short(number: usize) -> u16
-    ensures { result ≡ min 65535 number }
-{
-    if number < 65535 { number as u16 } else { 65535 }
 }

@@ -123,6 +123,7 @@ fn kind_is_fixed(kind: SeenKind, reference: bool) -> bool
         SeenKind::Bound => true,
         SeenKind::Global => false,
         SeenKind::Local => false,
+        SeenKind::OuterLocal => false,
         _ => reference,
     }
 }

@@ -8,14 +8,13 @@ ghost use Rattle.expr_rules.specs.Postfix.{kind_of, leads, demand_before, walk_s
 use crate::asked::{Asks, Need, receiver};
 use crate::calls::Arguments;
 use crate::methods::{Called, Reach, is_change, method_reach};
-use crate::names::{copy_known, short};
 use crate::placed::{Gives, Judged, Root, placed};
 use epl_tree::{Suffix, SuffixNode, Suffixes};
 use epl_values::{Fields, List, Shape, copy_shape};
 use span_text::Spot;
 use sqlite_items::Boxed;
 use std::alloc::{AllocError, Global};
-use type_table::{Fault, Refusal, Table};
+use type_table::{Fault, Refusal, Table, copy_known, short};
 use typed_program::{TypedExpr, TypedNode, TypedSuffix, TypedSuffixNode, TypedSuffixes};
 
 /// What a step is for the limit on a place that is changed.

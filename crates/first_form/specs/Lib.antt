@@ -1,10 +1,4 @@
-pub mod Reads
-pub mod Words
-pub mod Grammar
-pub mod Parsing
 pub mod Expressions
-pub mod Types
-pub mod Typing
-pub mod Programs
-pub mod Typed
-pub mod Faults
+pub mod Statements
+pub mod Names
+pub mod Form

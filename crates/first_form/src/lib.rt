@@ -1,16 +1,9 @@
-//! Programs of the form that is built: one event type, one monitor, one listener, and prints.
+//! Which programs are built so far: one event type of integers and strings, one monitor, prints and one listener.
 #![tactic(auto)]
 
 mod expressions;
-mod fault;
-mod parser;
-mod program;
-mod tree;
-mod typing;
-mod words;
+mod form;
+mod names;
+mod statements;
 
-pub use fault::ProgramFault;
-pub use program::program_from;
-
-#[cfg(test)]
-mod tests;
+pub use form::is_first_form;

@@ -2,34 +2,11 @@ ghost use Rattle.std.specs.Prelude.{◌≡◌, IfOk, OnOk, drop, length, map};
 ghost use Rattle.type_table.specs.Table.{event_of};
 ghost use Rattle.listener_check.specs.Bound.{event_shape, with_bound, clauses_bind, binds, all_bind, inner_of, local_shape, local_of, bound_of};
 
-use crate::reader::short;
 use epl_tree::{EventExpr, EventExprs, EventNode, Template, TemplateClause};
 use epl_values::{List, Shape, Text, copy_shape};
 use std::alloc::{AllocError, Global};
-use type_table::{Scope, Seen, SeenKind, Seens, Table};
+use type_table::{Scope, Seen, SeenKind, Seens, Table, copy_seen, short};
 use typed_program::{Local, Locals};
-
-fn copy_known(alloc: Global, shape: &Option<Shape>) -> Result<Option<Shape>, AllocError>
-    ensures { IfOk result (λ s. s ≡ shape.now) }
-{
-    match shape {
-        Some(shape) => Ok(Some(copy_shape(alloc, shape)?)),
-        None => Ok(None),
-    }
-}
-
-fn copy_seen(alloc: Global, seen: &Seen) -> Result<Seen, AllocError>
-    ensures { IfOk result (λ s. s ≡ seen.now) }
-{
-    let name = Text::of(alloc, seen.name.as_str())?;
-    let shape = copy_known(alloc, &seen.shape)?;
-    Ok(Seen {
-        name,
-        shape,
-        kind: seen.kind,
-        number: seen.number,
-    })
-}
 
 fn copy_names(alloc: Global, names: &Seens) -> Result<Seens, AllocError>
     ensures { IfOk result (λ n. n ≡ names.now) }

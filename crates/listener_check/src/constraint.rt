@@ -3,12 +3,12 @@ ghost use Rattle.listener_check.specs.Constraints.{none_done, is_named, is_any, 
 ghost use Rattle.type_table.specs.Types.{is_scalar};
 ghost use Rattle.listener_check.specs.Went.{Goes};
 
-use crate::reader::{Reader, short};
+use crate::reader::Reader;
 use crate::sofar::Sofar;
 use epl_tree::{Comparison, Constraint, ConstraintNode, Constraints, Expr, Range};
 use epl_values::{Fields, List, Shape, Texts};
 use std::alloc::Global;
-use type_table::{Fault, Refusal};
+use type_table::{Fault, Refusal, short};
 use typed_program::{
     Constraint as Typed, ConstraintNode as TypedNode, Constraints as Typeds, Range as TypedRange,
     RangeEnd as TypedEnd,

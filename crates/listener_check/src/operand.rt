@@ -2,13 +2,13 @@ ghost use Rattle.std.specs.Prelude.{◌≡◌, ◌++◌, IfOk, OnOk};
 ghost use Rattle.listener_check.specs.Operands.{bound, place_of, field_in, fields_in, path_in, placed, sum_operand, added_operand, last_of, given_operand, named_operand, operand_of, is_integer, operand_read, signed};
 ghost use Rattle.listener_check.specs.Went.{Goes};
 
-use crate::reader::{Reader, count_sum, short};
+use crate::reader::{Reader, count_sum};
 use crate::sofar::Sofar;
 use crate::value::Naming;
 use epl_tree::Expr;
 use epl_values::{List, Shape, Texts};
 use std::alloc::{AllocError, Global};
-use type_table::Refusal;
+use type_table::{Refusal, short};
 use typed_program::{
     FieldNumbers, Operand, TypedExpr, TypedLink, TypedLinks, TypedNode, TypedSuffix,
     TypedSuffixNode, TypedSuffixes,

@@ -1,7 +1,7 @@
 ghost use Rattle.std.specs.Prelude.{◌≡◌};
 ghost use Rattle.type_table.specs.Found.{told};
 ghost use Rattle.listener_check.specs.Bound.{is_own, is_among};
-ghost use Rattle.listener_check.specs.Limits.{short, leaf_read, sum_read};
+ghost use Rattle.listener_check.specs.Limits.{leaf_read, sum_read};
 ghost use Rattle.listener_check.specs.Went.{Goes};
 
 use crate::sofar::Sofar;
@@ -35,13 +35,6 @@ pub fn is_among(names: &Texts, name: &str) -> bool
     ensures { result ≡ is_among names.now name.now }
 {
     names.as_slice().iter().any(|n| n.as_str() == name)
-}
-
-/// The number of a place.
-pub fn short(at: usize) -> u16
-    ensures { result ≡ short at }
-{
-    if at < 65535 { at as u16 } else { 65535 }
 }
 
 /// Counts a leaf; one past the limit is refused.

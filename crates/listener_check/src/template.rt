@@ -4,12 +4,12 @@ ghost use Rattle.listener_check.specs.Limits.{short};
 ghost use Rattle.listener_check.specs.Went.{Goes};
 
 use crate::constraint::Done;
-use crate::reader::{Reader, count_leaf, is_among, short};
+use crate::reader::{Reader, count_leaf, is_among};
 use crate::sofar::Sofar;
 use epl_tree::{Name, Template, TemplateClause, TemplateClauses};
 use epl_values::{Fields, Text, Texts};
 use span_text::Spot;
-use type_table::{Fault, Refusal};
+use type_table::{Fault, Refusal, short};
 use typed_program::TemplateShape;
 
 /// The clauses of a template: the place of the name that it binds, and that of its duration.

@@ -1,7 +1,7 @@
 -- Records of runs: which are faithful to a program, its items and its settings, and which one a schedule makes.
 use Rattle.std.specs.Prelude.{◌≡◌, ℕ, List, map, Option}
 use Rattle.actor_theory.specs.Kept as kept
-use Rattle.naive_meaning.specs.declared.program.Program.{Program}
+use Rattle.typed_program.specs.declared.program.Program.{Program}
 use Rattle.naive_meaning.specs.declared.entry.Cargo.{Cargo}
 use Rattle.naive_meaning.specs.declared.entry.Item.{Item}
 use Rattle.naive_meaning.specs.declared.entry.Line.{Line}

@@ -4,13 +4,13 @@ use Rattle.std.specs.List.{list_any}
 use Rattle.epl_values.specs.declared.value.Value.{Value, Value-F, out-Value}
 use Rattle.epl_values.specs.declared.value.Value.TheOpen as layer
 use Rattle.epl_values.specs.declared.value.Pair.{Pair}
-use Rattle.naive_meaning.specs.declared.program.Program.{Program}
-use Rattle.naive_meaning.specs.declared.program.Action.{Action}
-use Rattle.naive_meaning.specs.declared.program.Site.{Site}
-use Rattle.naive_meaning.specs.declared.program.Monitor.{Monitor}
-use Rattle.naive_meaning.specs.declared.program.Stmt.{Stmt}
-use Rattle.naive_meaning.specs.declared.program.Term.{Term}
-use Rattle.naive_meaning.specs.declared.program.Term.TheVariants.{All}
+use Rattle.typed_program.specs.declared.program.Program.{Program}
+use Rattle.typed_program.specs.declared.program.Action.{Action}
+use Rattle.typed_program.specs.declared.program.Site.{Site}
+use Rattle.typed_program.specs.declared.program.Monitor.{Monitor}
+use Rattle.typed_program.specs.declared.statement.Stmt.{Stmt}
+use Rattle.typed_program.specs.declared.term.Term.{Term, Term-F, out-Term}
+use Rattle.typed_program.specs.declared.term.Term.TheOpen as term
 use Rattle.naive_meaning.specs.declared.entry.Cargo.{Cargo}
 use Rattle.naive_meaning.specs.declared.entry.Cargo.TheVariants as cargo
 use Rattle.naive_meaning.specs.Bodies.{effects_of}
@@ -28,9 +28,18 @@ abbrev pub is_of_type : ℕ → Option ℕ → Bool
 is_of_type n None = false
 is_of_type n (Some m) = m == n
 
--- an event completes the term
+-- an event has the type of a template
+abbrev pub is_of_template : Term-F Term → Value → Bool
+is_of_template (term.Template template) e = is_of_type template.event (type_in (out-Value e))
+is_of_template other e = false
+
+-- an event completes `all` of a template; other terms aren't built yet
+abbrev pub fits_layer : Term-F Term → Value → Bool
+fits_layer (term.All inner) e = is_of_template (out-Term inner) e
+fits_layer other e = false
+
 abbrev pub fits : Term → Value → Bool
-fits (All template) e = is_of_type template.event (type_in (out-Value e))
+fits t e = fits_layer (out-Term t) e
 
 -- a body that isn't there has no statements
 abbrev pub site_body : Option Site → List Stmt

@@ -3,16 +3,12 @@
 
 mod context;
 mod entry;
-mod program;
 mod record;
 
 pub use context::{Context, Instance, Instances, Listener, Listeners};
 pub use entry::{Cargo, Item, Items, Line, Lines};
-pub use program::{
-    Action, Actions, FieldNumbers, Monitor, Monitors, Program, Site, Sites, Stmt, Stmts,
-    TemplateShape, Term, TypedExpr, TypedExprs, TypedNode,
-};
 pub use record::{
     ContextRecord, ContextRecords, Entries, Entry, Handled, HandledList, ReaderRecord, ReaderStep,
     ReaderSteps, Record, Settings,
 };
+pub use typed_program::Program;

@@ -1,7 +1,7 @@
 ghost use Rattle.std.specs.Prelude.{◌≡◌, ◌+◌, IfOk, OnOk};
 ghost use Rattle.actor_theory.specs.Machine.{reader_after_entry};
 ghost use Rattle.naive_meaning.specs.Actors.{reader_of};
-ghost use Rattle.naive_meaning.specs.declared.program.Program.{Program};
+ghost use Rattle.typed_program.specs.declared.program.Program.{Program};
 ghost use Rattle.source_actor.specs.Steps.{after_first, first_entry, fresh_reader, item_entry, record_of};
 
 use epl_values::{Memory, copy};

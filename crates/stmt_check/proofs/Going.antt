@@ -194,5 +194,3 @@ row_stop rows xs i out {e = e} {old = old} new lt is so h = record { does = row_
 
 pub row_end : {S A B : Type 0} {M : List A → List (Reads S B)} {F : A → Reads S B} (rows : Rows M F) (xs : List A) (i : ℕ) {out : List B} {s old : S} → length xs ≤ i → front out (each (M (drop i xs)) s) ≡ each (M xs) old → Goes (each (M xs)) old s (Ok out)
 row_end {M = M} rows xs i {out} {s} le so = record { does = sym so ∙ ap (λ ms. front out (each ms s)) (ap M (drop_all i xs le) ∙ rows.none) ∙ each_end out s }
-
-pub ruleset going = (goes_bind, goes_stop, goes_err, goes_memory, goes_pure, goes_given, goes_looks, goes_changes, goes_tells, goes_by, goes_none, goes_some, goes_some_err)

@@ -101,7 +101,9 @@ captured_in named names = filter (λ s. not (is_global s.kind) && named s.name) 
 
 abbrev pub outer_kind : SeenKind → SeenKind
 outer_kind kind.Bound = kind.Bound
-outer_kind k = kind.Outer
+outer_kind kind.Local = kind.OuterLocal
+outer_kind kind.OuterLocal = kind.OuterLocal
+outer_kind k = kind.OuterFixed
 
 abbrev pub place_among : List Seen → ℕ → ℕ
 place_among captured number = count_by (λ c. nat_lt c.number number) captured

@@ -10,14 +10,13 @@ ghost use Rattle.type_table.specs.Types.{type_found};
 use crate::body::Body;
 use crate::endings::ends_with_return;
 use crate::made::Made;
-use crate::number::short;
 use crate::spawn::is_special;
 use crate::state::State;
 use epl_tree::{ActionDecl, Member, Name, Param, Stmts, TypeExpr};
 use epl_values::{Shape, Shapes};
 use std::alloc::{AllocError, Global};
 use std::mem;
-use type_table::{Fault, Refusal, Scope, Table, shape_of};
+use type_table::{Fault, Refusal, Scope, Table, shape_of, short};
 use typed_program as typed;
 use typed_program::{Action, Sites};
 

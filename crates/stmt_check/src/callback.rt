@@ -7,7 +7,7 @@ ghost use Rattle.type_table.specs.Found.{Clears, told};
 
 use crate::body::Body;
 use crate::captures::stmt_names;
-use crate::number::{copy_known, known, short};
+use crate::number::known;
 use crate::state::State;
 use epl_tree::{EventExpr, Stmt};
 use epl_values::{Shapes, Text};
@@ -15,7 +15,7 @@ use listener_check::inner_scope;
 use span_text::Spot;
 use std::alloc::{AllocError, Global};
 use std::mem;
-use type_table::{Fault, Refusal, Scope, Seen, SeenKind, Seens};
+use type_table::{Fault, Refusal, Scope, Seen, SeenKind, Seens, copy_seen, short};
 use typed_program as typed;
 use typed_program::{Local, Locals, Site, Sites, TypedTerm};
 
@@ -39,7 +39,9 @@ fn outer_kind(kind: SeenKind) -> SeenKind
 {
     match kind {
         SeenKind::Bound => SeenKind::Bound,
-        _ => SeenKind::Outer,
+        SeenKind::Local => SeenKind::OuterLocal,
+        SeenKind::OuterLocal => SeenKind::OuterLocal,
+        _ => SeenKind::OuterFixed,
     }
 }
 
@@ -47,17 +49,6 @@ fn place_among(captured: &[Seen], number: u16) -> usize
     ensures { result ≡ place_among captured.now number }
 {
     captured.iter().filter(|c| c.number < number).count()
-}
-
-fn copy_seen(alloc: Global, seen: &Seen) -> Result<Seen, AllocError>
-    ensures { IfOk result (λ s. s ≡ seen.now) }
-{
-    Ok(Seen {
-        name: Text::of(alloc, seen.name.as_str())?,
-        shape: copy_known(alloc, &seen.shape)?,
-        kind: seen.kind,
-        number: seen.number,
-    })
 }
 
 #[tactic(auto, unfolding(crate::specs::Bodies::outer_seen))]

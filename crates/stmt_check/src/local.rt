@@ -6,12 +6,12 @@ ghost use Rattle.type_table.specs.Found.{Clears, told};
 ghost use Rattle.type_table.specs.Scopes.{cut_to};
 
 use crate::body::Body;
-use crate::number::{known, short};
+use crate::number::known;
 use crate::state::State;
 use epl_tree::{Expr, Name, TypeExpr};
 use epl_values::{Shape, Text, copy_shape};
 use std::alloc::{AllocError, Global};
-use type_table::{Fault, Refusal, Seen, SeenKind, Seens, shape_of};
+use type_table::{Fault, Refusal, Seen, SeenKind, Seens, shape_of, short};
 use typed_program::Stmt;
 
 fn may_declare(name: &Name, state: &State) -> Result<(), Refusal>

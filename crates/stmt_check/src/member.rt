@@ -7,14 +7,13 @@ ghost use Rattle.type_table.specs.Found.{Clears, told};
 use crate::action::{Reader, globals_before};
 use crate::body::action_named;
 use crate::made::Made;
-use crate::number::short;
 use epl_tree::{Expr, GlobalDecl, Member, MonitorDecl, Name};
 use epl_values::{Shape, Text};
 use expr_check::judge;
 use expr_rules::{Asked, Asks};
 use std::alloc::{AllocError, Global};
 use std::mem;
-use type_table::{Fault, Refusal, Scope, Table, shape_of};
+use type_table::{Fault, Refusal, Scope, Table, shape_of, short};
 use typed_program::{Global as TypedGlobal, Globals, Monitor, TypedExpr};
 
 impl Reader<'_> {

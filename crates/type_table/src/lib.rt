@@ -18,12 +18,12 @@ mod whole;
 mod widths;
 
 pub use fault::{CheckFault, Fault, Refusal};
-pub use scope::{Scope, Seen, SeenKind, Seens};
+pub use scope::{Scope, Seen, SeenKind, Seens, copy_known, copy_seen};
 pub use table::{
     ActionHead, ActionHeads, GlobalHead, GlobalHeads, MonitorHead, MonitorHeads, ParamHead,
     ParamHeads, ResultHead, Table,
 };
-pub use types::{holds_link, is_reference, is_scalar, shape_of};
+pub use types::{holds_link, is_reference, is_scalar, shape_of, short};
 pub use whole::gather;
 
 #[cfg(test)]

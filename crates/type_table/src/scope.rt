@@ -14,8 +14,10 @@ pub enum SeenKind {
     Param,
     Local,
     Loop,
-    /// A parameter, local or loop variable of the body around a callback.
-    Outer,
+    /// A local of the body around a callback.
+    OuterLocal,
+    /// A parameter or loop variable of the body around a callback.
+    OuterFixed,
     /// A co-assignment.
     Bound,
 }
@@ -167,11 +169,26 @@ fn params_seen(alloc: Global, names: Seens, params: &ParamHeads) -> Result<Seens
     Ok(names)
 }
 
-fn copy_known(alloc: Global, shape: &Option<Shape>) -> Result<Option<Shape>, AllocError>
+/// A copy of a shape, if it is known.
+pub fn copy_known(alloc: Global, shape: &Option<Shape>) -> Result<Option<Shape>, AllocError>
     ensures { IfOk result (λ s. s ≡ shape.now) }
 {
     match shape {
         Some(shape) => Ok(Some(copy_shape(alloc, shape)?)),
         None => Ok(None),
     }
+}
+
+/// A copy of a name that is seen.
+pub fn copy_seen(alloc: Global, seen: &Seen) -> Result<Seen, AllocError>
+    ensures { IfOk result (λ s. s ≡ seen.now) }
+{
+    let name = Text::of(alloc, seen.name.as_str())?;
+    let shape = copy_known(alloc, &seen.shape)?;
+    Ok(Seen {
+        name,
+        shape,
+        kind: seen.kind,
+        number: seen.number,
+    })
 }

@@ -56,7 +56,7 @@ pub fn holds_link(shape: &Shape) -> bool
 }
 
 /// A number that fits, or 65,535 where it doesn't.
-pub(crate) fn short(number: usize) -> u16
+pub fn short(number: usize) -> u16
     ensures { result ≡ min 65535 number }
 {
     if number < 65535 { number as u16 } else { 65535 }

@@ -8,7 +8,7 @@ use Rattle.actor_theory.specs.Kept as kept
 use Rattle.actor_theory.specs.Machine.{Cell, queue_at, slots_kept, kept_of}
 use Rattle.actor_theory.proofs.Looping.{machine-scheduled}
 use Rattle.actor_theory.proofs.Keeping.{scheduled-kept}
-use Rattle.naive_meaning.specs.declared.program.Program.{Program}
+use Rattle.typed_program.specs.declared.program.Program.{Program}
 use Rattle.naive_meaning.specs.declared.context.Context.{Context}
 use Rattle.naive_meaning.specs.declared.entry.Cargo.{Cargo}
 use Rattle.naive_meaning.specs.declared.entry.Item.{Item}

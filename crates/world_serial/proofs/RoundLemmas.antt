@@ -8,7 +8,7 @@ use Rattle.actor_theory.specs.Rounding.{Rounding, RoundsSoFar}
 use Rattle.actor_theory.proofs.Measuring.{joined-measure}
 use Rattle.actor_theory.proofs.Rounding.{rounding-all, rounds-more, rounds-all}
 use Rattle.actor_theory.proofs.Looping.{machine-rounding_more}
-use Rattle.naive_meaning.specs.declared.program.Program.{Program}
+use Rattle.typed_program.specs.declared.program.Program.{Program}
 use Rattle.naive_meaning.specs.declared.entry.Cargo.{Cargo}
 use Rattle.naive_meaning.specs.declared.entry.Cargo.TheVariants as cargo
 use Rattle.naive_meaning.specs.declared.entry.Item.{Item}

@@ -7,7 +7,7 @@ use Rattle.actor_theory.specs.World.{World as Moment, IsFinished}
 use Rattle.actor_theory.specs.Machine.{Cell, ReaderCell, world_of, Stand, empty_queues, fresh_cells, fresh_reader, loaded_queues, without_items}
 use Rattle.actor_theory.proofs.Beginning.{fresh-stand}
 use Rattle.actor_theory.proofs.Looping.{machine-boot}
-use Rattle.naive_meaning.specs.declared.program.Program.{Program}
+use Rattle.typed_program.specs.declared.program.Program.{Program}
 use Rattle.naive_meaning.specs.declared.context.Context.{Context}
 use Rattle.naive_meaning.specs.declared.entry.Cargo.{Cargo}
 use Rattle.naive_meaning.specs.declared.entry.Cargo.TheVariants as cargo

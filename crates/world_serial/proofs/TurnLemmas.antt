@@ -8,7 +8,7 @@ use Rattle.actor_theory.specs.World.{turn_of}
 use Rattle.actor_theory.specs.Joined.{slots_only}
 use Rattle.actor_theory.specs.Machine.{Cell, ReaderCell, queue_at, world_of, Stand, Stepped, cell_after, reader_after_entry, delivered}
 use Rattle.actor_theory.proofs.Turning.{turned-slot, turned-slot_empty, turned-slot_spent, turned-entry, turned-item, turned-done, turned-wait}
-use Rattle.naive_meaning.specs.declared.program.Program.{Program}
+use Rattle.typed_program.specs.declared.program.Program.{Program}
 use Rattle.naive_meaning.specs.declared.context.Context.{Context}
 use Rattle.naive_meaning.specs.declared.entry.Cargo.{Cargo}
 use Rattle.naive_meaning.specs.declared.entry.Item.{Item}

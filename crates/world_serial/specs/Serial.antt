@@ -9,7 +9,7 @@ use Rattle.actor_theory.specs.Order.{ordered}
 use Rattle.actor_theory.specs.Measure.{joined_weight, joined_cost}
 use Rattle.actor_theory.specs.Rounding.{Rounded}
 use Rattle.actor_theory.specs.Faithful.{IsBoot}
-use Rattle.naive_meaning.specs.declared.program.Program.{Program}
+use Rattle.typed_program.specs.declared.program.Program.{Program}
 use Rattle.naive_meaning.specs.declared.context.Context.{Context}
 use Rattle.naive_meaning.specs.declared.entry.Cargo.{Cargo}
 use Rattle.naive_meaning.specs.declared.entry.Item.{Item}

@@ -2,7 +2,7 @@ ghost use Rattle.std.specs.Prelude.{◌≡◌, ◌<◌, ◌≤◌, ◌+◌, ◌+
 ghost use Rattle.actor_theory.specs.Language.{stamped};
 ghost use Rattle.actor_theory.specs.Machine.{empty_queues, fresh_cells};
 ghost use Rattle.naive_meaning.specs.Actors.{contexts_of, loads_below};
-ghost use Rattle.naive_meaning.specs.declared.program.Program.{Program as TheProgram};
+ghost use Rattle.typed_program.specs.declared.program.Program.{Program as TheProgram};
 ghost use Rattle.world_serial.specs.Serial.{IsBooted, IsFresh};
 
 use crate::World;

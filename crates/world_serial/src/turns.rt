@@ -1,6 +1,6 @@
 ghost use Rattle.std.specs.Prelude.{◌≡◌, ◌<◌, ◌+◌, Bool, false, length, slice_set, IfOk, OnOk};
 ghost use Rattle.actor_theory.specs.Machine.{queue_at};
-ghost use Rattle.naive_meaning.specs.declared.program.Program.{Program as TheProgram};
+ghost use Rattle.typed_program.specs.declared.program.Program.{Program as TheProgram};
 ghost use Rattle.world_serial.specs.Queued.{first_of, rest_of};
 ghost use Rattle.world_serial.specs.Serial.{IsStanding, TurnsOn};
 

@@ -1,6 +1,6 @@
 use Rattle.std.proofs.Common.{◌≡◌}
 use Rattle.actor_theory.specs.Machine.{fresh_cells}
-use Rattle.naive_meaning.specs.declared.program.Program.{Program}
+use Rattle.typed_program.specs.declared.program.Program.{Program}
 use Rattle.naive_meaning.specs.Actors.{contexts_of}
 use Rattle.world_serial.proofs.start.fresh_cells.Given as goal
 

@@ -1,9 +1,0 @@
-pub mod Many
-pub mod Options
-pub mod Parsed
-pub mod Reparsed
-pub mod Each
-pub mod Meant
-pub mod Named
-pub mod Standing
-pub mod Told

@@ -1,0 +1,5 @@
+pub mod Only
+pub mod Telling
+pub mod Named
+pub mod Types
+pub mod Laws

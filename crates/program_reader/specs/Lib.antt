@@ -1,0 +1,3 @@
+pub mod Built
+pub mod Programs
+pub mod Steps
