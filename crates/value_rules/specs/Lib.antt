@@ -1,0 +1,5 @@
+pub mod Costs
+pub mod Defaults
+pub mod Shapes
+pub mod Texts
+pub mod Types

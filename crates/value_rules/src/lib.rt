@@ -1,0 +1,14 @@
+//! What the language says of values: their costs, order, texts, defaults and shapes.
+#![tactic(auto)]
+
+mod costs;
+mod defaults;
+mod orders;
+#[cfg(test)]
+mod tests;
+mod texts;
+
+pub use costs::cost;
+pub use defaults::default_of;
+pub use orders::order;
+pub use texts::text_of;
