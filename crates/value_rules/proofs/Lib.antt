@@ -1,1 +1,4 @@
+pub mod Defaulted
+pub mod Depths
 pub mod Escapes
+pub mod Having

@@ -3,6 +3,7 @@
 
 mod costs;
 mod defaults;
+mod laws;
 mod orders;
 #[cfg(test)]
 mod tests;
@@ -10,5 +11,6 @@ mod texts;
 
 pub use costs::cost;
 pub use defaults::default_of;
+pub use laws::defaults_have_shapes;
 pub use orders::order;
 pub use texts::text_of;

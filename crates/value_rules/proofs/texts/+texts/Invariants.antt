@@ -5,11 +5,11 @@ use Rattle.value_rules.proofs.texts.+texts.Given as goal
 abbrev pub invariant-push_values-loop-value : goal.invariant-push_values-loop-value
 invariant-push_values-loop-value l = record {
   made : l.out ≡ l.fn.out ++ with_commas (map (text_in l.types) (take l.value-index l.values));
-  front : l.first ≡ (l.value-index == 0)
+  front : l.first ≡ (l.value-index == 0);
 }
 
 abbrev pub invariant-push_pairs-loop-pair : goal.invariant-push_pairs-loop-pair
 invariant-push_pairs-loop-pair l = record {
   made : l.out ≡ l.fn.out ++ with_commas (map (pair_text l.types) (take l.pair-index l.pairs));
-  front : l.first ≡ (l.pair-index == 0)
+  front : l.first ≡ (l.pair-index == 0);
 }

@@ -9,5 +9,5 @@ invariant-loop-at l = record {
   behind : l.from ≤ l.at;
   within : l.at ≤ length l.text;
   edge : IsCharBoundary l.text l.from;
-  made : l.out ++ slice_range l.text l.from l.at ≡ l.fn.out ++ flat_map escaped (take l.at l.text)
+  made : l.out ++ slice_range l.text l.from l.at ≡ l.fn.out ++ flat_map escaped (take l.at l.text);
 }
