@@ -1,5 +1,5 @@
 -- When a value has a shape.
-use Rattle.std.specs.Prelude.{ℕ, List, [], ◌∷◌, Bool, true, false, ◌&&◌, ◌==◌, map, Option, Some, None, slice_get}
+use Rattle.std.specs.Prelude.{List, [], ◌∷◌, Bool, true, false, ◌&&◌, ◌==◌, map, Option, Some, None, slice_get}
 use Rattle.std.specs.List.{list_all}
 use Rattle.epl_values.specs.declared.shape.Shape.{Shape, Shape-F, out-Shape}
 use Rattle.epl_values.specs.declared.shape.Shape.TheOpen as shape

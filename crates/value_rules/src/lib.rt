@@ -5,12 +5,14 @@ mod costs;
 mod defaults;
 mod laws;
 mod orders;
+mod shapes;
 #[cfg(test)]
 mod tests;
 mod texts;
 
 pub use costs::cost;
 pub use defaults::default_of;
-pub use laws::defaults_have_shapes;
+pub use laws::{defaults_have_shapes, shapes_by_place};
 pub use orders::order;
+pub use shapes::has_shape;
 pub use texts::text_of;
