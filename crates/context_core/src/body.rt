@@ -1,9 +1,8 @@
 ghost use Rattle.std.specs.Prelude.{◌≡◌, ◌==◌, not, filter, OnOk};
-ghost use Rattle.naive_meaning.specs.Bodies.{Print, Listen, effects_in, effects_of};
+ghost use Rattle.naive_meaning.specs.Bodies.{Print, Listen, stmt_effects, effects_of};
 ghost use Rattle.naive_meaning.specs.Contexts.{apply, apply_all, settled, is_busy};
 ghost use Rattle.naive_meaning.specs.Expressions.{text_in};
 ghost use Rattle.naive_meaning.specs.Turns.{ran};
-ghost use Rattle.typed_program.specs.declared.statement.Stmt.{out-Stmt};
 
 use crate::expression::{Frame, text_in};
 use epl_values::{List, Memory, Text, Value};
@@ -35,13 +34,14 @@ fn listen(context: &mut Context, instance: u64, site: u16) -> Result<(), Memory>
     Ok(())
 }
 
+#[cycle(statements)]
 fn perform(
     frame: &Frame<'_>,
     context: &mut Context,
     instance: u64,
     stmt: &Stmt,
 ) -> Result<(), Memory>
-    ensures { OnOk result (context.new ≡ apply_all instance (effects_in frame.now.locals.now (out-Stmt stmt.now)) context.old) }
+    ensures { OnOk result (context.new ≡ apply_all instance (stmt_effects frame.now.locals.now stmt.now) context.old) }
 {
     match stmt {
         Stmt::Print(expr) => {
@@ -49,11 +49,12 @@ fn perform(
             print(frame.alloc, context, instance, &value)
         }
         Stmt::On(site) => listen(context, instance, *site),
+        Stmt::Block(parts) => perform_all(frame, context, instance, parts.as_slice()),
         _ => Ok(()),
     }
 }
 
-#[tactic(auto, using(crate::proofs::Effects::apply_all_both))]
+#[cycle(statements)]
 fn perform_all(
     frame: &Frame<'_>,
     context: &mut Context,
