@@ -1,0 +1,12 @@
+use Rattle.walk_rules.proofs.Running.{walks_err}
+use Rattle.walk_rules.proofs.Binding.{walks_seq, walks_seq_err}
+use Rattle.body_meaning.specs.Effects.{log}
+use Rattle.walk_rules.proofs.host_calls.log.Goals as goal
+
+pub returns-in_err-pay_cost : goal.returns-in_err-pay_cost
+unfolding log
+returns-in_err-pay_cost g c = λ frame. walks_err _ c.from_residual.ensures.1 (walks_seq_err _ (c.in_err-pay_cost.ensures frame))
+
+pub returns : goal.returns
+unfolding log
+returns g c = λ frame. walks_seq (c.in_ok-pay_cost.ensures frame) (rw c.letters.ensures at (c.perform.ensures frame))

@@ -1,0 +1,3 @@
+pub mod Ran
+pub mod Parts
+pub mod Contexts
