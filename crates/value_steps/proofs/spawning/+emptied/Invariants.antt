@@ -1,0 +1,10 @@
+use Rattle.std.proofs.Common.{◌≡◌, map, take}
+use Rattle.body_meaning.specs.Effects.{emptied}
+use Rattle.value_steps.specs.Emptied.{emptied_entry}
+use Rattle.value_steps.proofs.spawning.+emptied.Given as goal
+
+abbrev pub invariant-emptied_values-loop-value : goal.invariant-emptied_values-loop-value
+invariant-emptied_values-loop-value l = l.copies ≡ map emptied (take l.value-index l.values)
+
+abbrev pub invariant-emptied_pairs-loop-pair : goal.invariant-emptied_pairs-loop-pair
+invariant-emptied_pairs-loop-pair l = l.copies ≡ map emptied_entry (take l.pair-index l.pairs)

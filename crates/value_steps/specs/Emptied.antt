@@ -1,0 +1,8 @@
+-- An entry of which both parts are emptied of listeners.
+use Rattle.epl_values.specs.declared.value.Value.{Value}
+use Rattle.epl_values.specs.declared.value.Pair.{Pair, fold-Pair}
+use Rattle.body_meaning.specs.Effects.{emptied_pair, emptied_step}
+
+-- each listener in an entry becomes the empty one
+abbrev pub emptied_entry : Pair → Pair
+emptied_entry = fold-Pair Value Pair emptied_step emptied_pair

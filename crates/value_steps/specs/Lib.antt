@@ -1,0 +1,7 @@
+pub mod Answers
+pub mod Changed
+pub mod Emptied
+pub mod Entries
+pub mod Orderly
+pub mod Parts
+pub mod Shown
