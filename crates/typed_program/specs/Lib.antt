@@ -1,0 +1,13 @@
+pub mod Shapes
+pub mod Methods
+pub mod Expressions
+pub mod Terms
+pub mod Statements
+pub mod Programs
+pub mod Paths
+pub mod Courses
+pub mod TermRules
+pub mod Rules
+pub mod Limits
+pub mod Mentions
+pub mod Typed

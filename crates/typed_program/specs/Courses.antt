@@ -1,0 +1,167 @@
+-- The rules of statements: what is visible where, what may be assigned, where loops and bodies end, and what callbacks see.
+use Rattle.std.specs.Prelude.{ℕ, zero, suc, ◌+◌, Bool, true, false, ◌&&◌, not, ◌==◌, nat_lt, List, [], ◌∷◌, ◌++◌, map, length, Option, Some, None, is_some, slice_get, if◌then◌else◌}
+use Rattle.std.specs.List.{list_all, list_any}
+use Rattle.epl_values.specs.declared.shape.Shape.{Shape}
+use Rattle.typed_program.specs.declared.expression.TypedExpr.{TypedExpr}
+use Rattle.typed_program.specs.declared.program.Local.{Local}
+use Rattle.typed_program.specs.declared.program.Site.{Site}
+use Rattle.typed_program.specs.declared.statement.Stmt.{Stmt, Stmt-F, fold-Stmt}
+use Rattle.typed_program.specs.declared.statement.Stmt.TheOpen as stmt
+use Rattle.typed_program.specs.declared.statement.TypedPlace.{TypedPlace}
+use Rattle.typed_program.specs.declared.statement.Variable.{Variable}
+use Rattle.typed_program.specs.declared.statement.Variable.TheVariants as variable
+use Rattle.typed_program.specs.Shapes.{is_reference}
+use Rattle.typed_program.specs.Expressions.{Names, if_known}
+use Rattle.typed_program.specs.Paths.{Kind, Free, Held, Bound, Visible, Sight, Root, root_of, global_root, visible_at, is_reference_of, plain, all_plain, may_change, end_of, goes, path_of, going_of}
+
+-- what a statement leaves visible, and whether it keeps the rules
+pub record Course : Type 0 where
+  pub visible : List Visible
+  pub lawful : Bool
+
+-- a statement where these names are visible, in a loop of its body or not
+abbrev pub Reading : Type 0
+Reading = List Visible → Bool → Course
+
+-- ---- callbacks
+
+-- a name that a callback takes along, at its place among those: an outer reference that isn't a co-assignment isn't named there
+abbrev pub taken_along : Local → ℕ → Visible → List Visible
+taken_along c at v = elim v.kind [ Bound ↦ record { number = at; kind = Bound } ∷ [] | _ ↦ if is_reference c.shape then [] else record { number = at; kind = Free } ∷ [] ]
+
+abbrev pub taken_from : Local → ℕ → Option Visible → List Visible
+taken_from c at None = []
+taken_from c at (Some v) = taken_along c at v
+
+abbrev pub captured_from : List Visible → ℕ → List Local → List Visible
+captured_from visible at [] = []
+captured_from visible at (c ∷ cs) = taken_from c at (visible_at visible c.number) ++ captured_from visible (suc at) cs
+
+abbrev pub bound_from : ℕ → List Local → List Visible
+bound_from at [] = []
+bound_from at (b ∷ bs) = record { number = at; kind = Bound } ∷ bound_from (suc at) bs
+
+-- where a callback begins
+abbrev pub callback_sees : List Visible → Site → List Visible
+callback_sees visible site = captured_from visible 0 site.captured ++ bound_from (length site.captured) site.bound
+
+-- captured names are visible around the `on`, in ascending order of their numbers
+abbrev pub ascend : List ℕ → Bool
+ascend [] = true
+ascend (n ∷ []) = true
+ascend (n ∷ m ∷ ns) = nat_lt n m && ascend (m ∷ ns)
+
+abbrev pub captures : List Visible → Site → Bool
+captures visible site = ascend (map (λ c. c.number) site.captured) && list_all (λ c. is_some (visible_at visible c.number)) site.captured
+
+-- ---- statements
+
+abbrev pub open_course : List Visible → Bool → Course
+open_course visible lawful = record { visible = visible; lawful = lawful }
+
+-- what a part declares is visible in it alone
+abbrev pub scoped : Reading → List Visible → Bool → Bool
+scoped m visible looped = (m visible looped).lawful
+
+abbrev pub row_of : List Reading → Reading
+row_of [] visible looped = open_course visible true
+row_of (m ∷ ms) visible looped = let first = m visible looped in let rest = row_of ms first.visible looped in open_course rest.visible (first.lawful && rest.lawful)
+
+abbrev pub with_local : ℕ → Kind → List Visible → List Visible
+with_local n kind visible = visible ++ record { number = n; kind = kind } ∷ []
+
+abbrev pub if_there : Option Reading → List Visible → Bool → Bool
+if_there None visible looped = true
+if_there (Some m) visible looped = scoped m visible looped
+
+module _ (names : Names) (sites : List Site) (special : List ℕ) (callback : ℕ → List Visible → Bool) where
+  abbrev pub sees : List Visible → Sight
+  sees visible = record { visible = visible; special = special }
+
+  abbrev pub is_plain : List Visible → TypedExpr → Bool
+  is_plain visible e = plain (path_of (sees visible) e)
+
+  abbrev pub is_lawful : List Visible → TypedExpr → Bool
+  is_lawful visible e = (path_of (sees visible) e).lawful
+
+  -- a listener of a site: its operands here, and its callback with what it sees
+  abbrev pub listens : List Visible → ℕ → Site → Bool
+  listens visible n site = list_all (is_plain visible) site.operands && captures visible site && callback n (callback_sees visible site)
+
+  abbrev pub listens_at : List Visible → ℕ → Bool
+  listens_at visible n = if_known (listens visible n) (slice_get sites n)
+
+  abbrev pub place_root : List Visible → Variable → Option Root
+  place_root visible (variable.Global n) = Some global_root
+  place_root visible (variable.Local n) = elim (visible_at visible n) [ None ↦ None | Some v ↦ Some (root_of (is_reference_of (slice_get names.locals n)) v) ]
+
+  abbrev pub is_there : Option Root → Bool
+  is_there root = is_some root
+
+  -- a place that is assigned: a visible variable, steps that keep the rules, and an end that may be changed
+  abbrev pub assigns : List Visible → TypedPlace → Bool
+  assigns visible place = let root = place_root visible place.variable in let steps = map (going_of (sees visible)) place.steps in is_there root && goes root steps && may_change (end_of root steps)
+
+  abbrev pub returns : List Visible → Option TypedExpr → Bool
+  returns visible None = true
+  returns visible (Some e) = is_plain visible e
+
+  abbrev pub stmt_reading : Stmt-F Reading → Reading
+  stmt_reading (stmt.Block parts) visible looped = open_course visible (scoped (row_of parts) visible looped)
+  stmt_reading (stmt.On site) visible looped = open_course visible (listens_at visible site)
+  stmt_reading (stmt.Declare n s) visible looped = open_course (with_local n Free visible) true
+  stmt_reading (stmt.DeclareAs n e) visible looped = open_course (with_local n Free visible) (is_plain visible e)
+  stmt_reading (stmt.DeclareOn n site) visible looped = open_course (with_local n Free visible) (listens_at visible site)
+  stmt_reading (stmt.Assign place e) visible looped = open_course visible (assigns visible place && is_plain visible e)
+  stmt_reading (stmt.AssignOn place site) visible looped = open_course visible (assigns visible place && listens_at visible site)
+  stmt_reading (stmt.If test part other) visible looped = open_course visible (is_plain visible test && scoped part visible looped && if_there other visible looped)
+  stmt_reading (stmt.While test parts) visible looped = open_course visible (is_plain visible test && scoped (row_of parts) visible true)
+  stmt_reading (stmt.For n items parts) visible looped = open_course visible (is_lawful visible items && scoped (row_of parts) (with_local n Held visible) true)
+  stmt_reading stmt.Break visible looped = open_course visible looped
+  stmt_reading stmt.Continue visible looped = open_course visible looped
+  stmt_reading (stmt.Return e) visible looped = open_course visible (returns visible e)
+  stmt_reading stmt.Die visible looped = open_course visible true
+  stmt_reading (stmt.Print text) visible looped = open_course visible (is_plain visible text)
+  stmt_reading (stmt.Log text level) visible looped = open_course visible (is_plain visible text)
+  stmt_reading (stmt.Route e) visible looped = open_course visible (is_lawful visible e)
+  stmt_reading (stmt.Send e to) visible looped = open_course visible (is_lawful visible e && is_plain visible to)
+  stmt_reading (stmt.Spawn n es to) visible looped = open_course visible (not (list_any (λ m. m == n) special) && list_all (is_plain visible) es && returns visible to)
+  stmt_reading (stmt.Subscribe channel) visible looped = open_course visible (is_plain visible channel)
+  stmt_reading (stmt.Unsubscribe channel) visible looped = open_course visible (is_plain visible channel)
+  stmt_reading (stmt.Call e) visible looped = open_course visible (is_plain visible e)
+
+  abbrev pub reading_of : Stmt → Reading
+  reading_of = fold-Stmt Reading stmt_reading
+
+  -- a body where these names are visible
+  abbrev pub runs : List Stmt → List Visible → Bool
+  runs body visible = (row_of (map reading_of body) visible false).lawful
+
+-- ---- ends
+
+-- as the last statement of a row, and as a part of an `if`: it is a `return`, or an `if` whose both parts end so; a part in
+-- braces ends as its row does
+pub record Ending : Type 0 where
+  pub last : Bool
+  pub part : Bool
+
+abbrev pub last_ends : List Ending → Bool
+last_ends [] = false
+last_ends (s ∷ []) = s.last
+last_ends (s ∷ t ∷ rest) = last_ends (t ∷ rest)
+
+abbrev pub alike : Bool → Ending
+alike b = record { last = b; part = b }
+
+abbrev pub both_end : Ending → Option Ending → Bool
+both_end part None = false
+both_end part (Some other) = part.part && other.part
+
+abbrev pub ending_step : Stmt-F Ending → Ending
+ending_step (stmt.Return e) = alike true
+ending_step (stmt.If test part other) = alike (both_end part other)
+ending_step (stmt.Block parts) = record { last = false; part = last_ends parts }
+ending_step s = alike false
+
+abbrev pub ends_with_return : List Stmt → Bool
+ends_with_return body = last_ends (map (fold-Stmt Ending ending_step) body)
