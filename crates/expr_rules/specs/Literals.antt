@@ -16,7 +16,7 @@ use Rattle.expr_rules.specs.declared.literals.EntryList.{EntryList}
 use Rattle.expr_rules.specs.Asked.{Demand, Wish, Exactly, Key, plain, like}
 use Rattle.expr_rules.specs.Operators.{Part}
 use Rattle.expr_rules.specs.Places.{is_key, placed, stands, shape_of_expr}
-use Rattle.expr_rules.specs.Shapes.{is_sequence, is_dictionary}
+use Rattle.typed_program.specs.Shapes.{is_sequence, is_dictionary}
 use Rattle.expr_rules.specs.Then.{and_then, sound, through}
 
 -- the number of digits behind others

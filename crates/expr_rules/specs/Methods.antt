@@ -7,7 +7,7 @@ use Rattle.epl_values.specs.declared.shape.Shape.TheOpen as layer
 use Rattle.typed_program.specs.declared.expression.TypedSuffixNode.TheVariants as suffix
 use Rattle.typed_program.specs.declared.expression.Method.{Method}
 use Rattle.typed_program.specs.declared.expression.Method.TheVariants as method
-use Rattle.type_table.specs.Types.{holds_link, is_scalar}
+use Rattle.typed_program.specs.Shapes.{holds_link, is_scalar}
 use Rattle.expr_rules.specs.declared.placed.Gives.{Gives}
 use Rattle.expr_rules.specs.declared.placed.Gives.TheVariants as gives
 use Rattle.expr_rules.specs.declared.placed.Root.{Root}

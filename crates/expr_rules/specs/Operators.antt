@@ -158,8 +158,9 @@ logic_node logic.Or first operands = made.Or first operands
 logic_node logic.Xor first operands = made.Xor first operands
 logic_node logic.And first operands = made.And first operands
 
+-- a chain is a boolean, also one of a single operand
 unfoldable pub chain_of : Spot → Demand → Logic → Chain → Found Judged
-chain_of spot demand l chain = operated spot demand (Some chain.sort) (logic_node l chain.first chain.operands)
+chain_of spot demand l chain = operated spot demand (truth chain.sort) (logic_node l chain.first chain.operands)
 
 abbrev pub chain_start : Judged → Chain
 chain_start j = record { first = j.typed; sort = sort_of_expr j.typed; operands = [] }
@@ -189,8 +190,9 @@ abbrev pub level_node : Level → TypedExpr → List TypedLink → TypedNode
 level_node level.Sum first links = made.Sum first links
 level_node level.Product first links = made.Product first links
 
+-- a chain is an integer or a text, also one of a single operand
 unfoldable pub links_of : Spot → Demand → Level → LinkChain → Found Judged
-links_of spot demand l chain = operated spot demand (Some chain.sort) (level_node l chain.first chain.links)
+links_of spot demand l chain = operated spot demand (addable (Some chain.sort)) (level_node l chain.first chain.links)
 
 abbrev pub links_start : Judged → LinkChain
 links_start j = record { first = j.typed; sort = sort_of_expr j.typed; links = [] }

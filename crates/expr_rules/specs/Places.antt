@@ -7,7 +7,7 @@ use Rattle.typed_program.specs.declared.expression.TypedNode.{TypedNode}
 use Rattle.type_table.specs.declared.scope.SeenKind.{SeenKind}
 use Rattle.type_table.specs.declared.scope.SeenKind.TheVariants as kind
 use Rattle.type_table.specs.Found.{Found}
-use Rattle.type_table.specs.Types.{is_reference, is_scalar}
+use Rattle.typed_program.specs.Shapes.{is_reference, is_scalar}
 use Rattle.expr_rules.specs.declared.asked.Paths.{Paths}
 use Rattle.expr_rules.specs.declared.asked.Paths.TheVariants as paths
 use Rattle.expr_rules.specs.declared.placed.Gives.{Gives}
@@ -15,7 +15,7 @@ use Rattle.expr_rules.specs.declared.placed.Gives.TheVariants as gives
 use Rattle.expr_rules.specs.declared.placed.Root.{Root}
 use Rattle.expr_rules.specs.declared.placed.Judged.{Judged}
 use Rattle.expr_rules.specs.Asked.{Demand, Wish, Statement, Value, Exactly, Key, Event, Sequence, Channel}
-use Rattle.expr_rules.specs.Shapes.{same, is_event, is_sequence, is_channel}
+use Rattle.typed_program.specs.Shapes.{same, is_event, is_sequence, is_channel}
 use Rattle.expr_rules.specs.Then.{node, and_then, sound, codes_of}
 
 -- whether a shape is one that is asked

@@ -1,7 +1,7 @@
 ghost use Rattle.std.specs.Prelude.{◌≡◌, ◌≤◌, [], pos, neg_ℤ, IfOk};
 ghost use Rattle.type_table.specs.Found.{Finds};
 ghost use Rattle.expr_rules.specs.Asked.{demand_of, wish_of};
-ghost use Rattle.expr_rules.specs.Shapes.{is_sequence, is_dictionary};
+ghost use Rattle.typed_program.specs.Shapes.{is_sequence, is_dictionary};
 ghost use Rattle.expr_rules.specs.Literals.{number_of, greatest, within, integer_value, integer_found, integer_stands, literal_stands, fixed, empty_code, empty_stands, empty_sequence, empty_dictionary, known_first, element_of, no_elements, sequence_given, full_sequence, sequence_of, entry_of, no_entries, dictionary_given, full_dictionary, dictionary_of, key_wish, new_stands, text_stands, boolean_stands, current_stands};
 
 use crate::asked::{Asks, Need};
@@ -93,7 +93,7 @@ pub fn integer(spot: Spot, need: Need, digits: &str) -> Result<Judged, Refusal>
 }
 
 /// The shape of an empty sequence, where its place fixes one.
-#[tactic(auto, unfolding(crate::specs::Shapes::is_sequence))]
+#[tactic(auto, unfolding(typed_program::specs::Shapes::is_sequence))]
 fn fixed_sequence(alloc: Global, asks: Asks) -> Result<Option<Shape>, AllocError>
     ensures { IfOk result (λ s. s ≡ fixed is_sequence (wish_of asks.entry)) }
 {
@@ -110,7 +110,7 @@ fn fixed_sequence(alloc: Global, asks: Asks) -> Result<Option<Shape>, AllocError
 }
 
 /// The shape of an empty dictionary, where its place fixes one.
-#[tactic(auto, unfolding(crate::specs::Shapes::is_dictionary))]
+#[tactic(auto, unfolding(typed_program::specs::Shapes::is_dictionary))]
 fn fixed_dictionary(alloc: Global, asks: Asks) -> Result<Option<Shape>, AllocError>
     ensures { IfOk result (λ s. s ≡ fixed is_dictionary (wish_of asks.entry)) }
 {

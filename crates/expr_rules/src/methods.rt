@@ -1,7 +1,7 @@
 ghost use Rattle.std.specs.Prelude.{◌≡◌, ◌∷◌, [], IfOk};
 ghost use Rattle.epl_values.specs.declared.shape.Shape.TheVariants as shape;
 ghost use Rattle.expr_rules.specs.declared.placed.Gives.TheVariants as gives;
-ghost use Rattle.type_table.specs.Types.{is_scalar};
+ghost use Rattle.typed_program.specs.Shapes.{is_scalar};
 ghost use Rattle.expr_rules.specs.Methods.{method_named, later_named, changes, is_change, signature_of, plain_methods, text_methods, sequence_methods, dictionary_methods, event_methods, listener_methods, text_row, place_row, row, row_of, unknown_call, called_by, called_of, call_code, method_reach};
 
 use crate::asked::Paths;

@@ -3,7 +3,7 @@ ghost use Rattle.type_table.specs.Found.{Finds};
 ghost use Rattle.typed_program.specs.declared.expression.TypedLink.{roll-TypedLink};
 ghost use Rattle.expr_rules.specs.Then.{sound};
 ghost use Rattle.expr_rules.specs.Asked.{demand_of};
-ghost use Rattle.expr_rules.specs.Operators.{sort_of, sort_of_expr, truth, number, alike, compared, linked, truths, given_by, operated, paired, not_of, minus_of, minus_node, comparison_of, joined, with_operand, logic_node, chain_of, chain_start, link_of, with_link, level_node, links_of, links_start};
+ghost use Rattle.expr_rules.specs.Operators.{sort_of, sort_of_expr, truth, number, alike, compared, addable, linked, truths, given_by, operated, paired, not_of, minus_of, minus_node, comparison_of, joined, with_operand, logic_node, chain_of, chain_start, link_of, with_link, level_node, links_of, links_start};
 
 use crate::asked::Need;
 use crate::placed::{Gives, Judged, stands};
@@ -126,14 +126,20 @@ fn compared(comparison: Comparison, left: Sort, right: Sort) -> Option<Sort>
     }
 }
 
+fn addable(sort: Sort) -> Option<Sort>
+    ensures { result ≡ addable (Some sort) }
+{
+    match sort {
+        Sort::Other | Sort::Boolean => None,
+        sort => Some(sort),
+    }
+}
+
 fn linked(operator: Operator, left: Sort, right: Sort) -> Option<Sort>
     ensures { result ≡ linked operator left right }
 {
     match operator {
-        Operator::Add => match alike(left, right)? {
-            Sort::Other | Sort::Boolean => None,
-            sort => Some(sort),
-        },
+        Operator::Add => addable(alike(left, right)?),
         _ => match (number(left), number(right)) {
             (Some(sort), Some(_)) => Some(sort),
             _ => None,
@@ -291,7 +297,7 @@ pub fn chain_of(
 {
     let first = Boxed::new(alloc, chain.first)?;
     let node = logic_node(logic, first, chain.operands);
-    operated(spot, need, Some(chain.sort), node)
+    operated(spot, need, truth(chain.sort), node)
 }
 
 /// A chain of its first operand.
@@ -371,5 +377,5 @@ pub fn links_of(
 {
     let first = Boxed::new(alloc, chain.first)?;
     let node = level_node(level, first, chain.links);
-    operated(spot, need, Some(chain.sort), node)
+    operated(spot, need, addable(chain.sort), node)
 }

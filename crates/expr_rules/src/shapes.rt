@@ -1,5 +1,6 @@
 ghost use Rattle.std.specs.Prelude.{◌≡◌};
-ghost use Rattle.expr_rules.specs.Shapes.{same, is_known_reference, is_event, is_sequence, is_dictionary, is_channel};
+ghost use Rattle.expr_rules.specs.Shapes.{is_known_reference};
+ghost use Rattle.typed_program.specs.Shapes.{same, is_event, is_sequence, is_dictionary, is_channel};
 
 use epl_values::Shape;
 use type_table::is_reference;
@@ -32,7 +33,7 @@ pub fn is_known_reference(shape: &Option<Shape>) -> bool
     }
 }
 
-#[tactic(auto, unfolding(crate::specs::Shapes::is_event))]
+#[tactic(auto, unfolding(typed_program::specs::Shapes::is_event))]
 pub fn is_event(shape: &Shape) -> bool
     ensures { result ≡ is_event shape.now }
 {
@@ -42,7 +43,7 @@ pub fn is_event(shape: &Shape) -> bool
     }
 }
 
-#[tactic(auto, unfolding(crate::specs::Shapes::is_sequence))]
+#[tactic(auto, unfolding(typed_program::specs::Shapes::is_sequence))]
 pub fn is_sequence(shape: &Shape) -> bool
     ensures { result ≡ is_sequence shape.now }
 {
@@ -52,7 +53,7 @@ pub fn is_sequence(shape: &Shape) -> bool
     }
 }
 
-#[tactic(auto, unfolding(crate::specs::Shapes::is_dictionary))]
+#[tactic(auto, unfolding(typed_program::specs::Shapes::is_dictionary))]
 pub fn is_dictionary(shape: &Shape) -> bool
     ensures { result ≡ is_dictionary shape.now }
 {
@@ -63,7 +64,7 @@ pub fn is_dictionary(shape: &Shape) -> bool
 }
 
 /// A text or a context.
-#[tactic(auto, unfolding(crate::specs::Shapes::is_channel))]
+#[tactic(auto, unfolding(typed_program::specs::Shapes::is_channel))]
 pub fn is_channel(shape: &Shape) -> bool
     ensures { result ≡ is_channel shape.now }
 {

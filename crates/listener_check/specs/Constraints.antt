@@ -19,7 +19,7 @@ use Rattle.typed_program.specs.declared.term.Operand.{Operand}
 use Rattle.type_table.specs.declared.scope.Scope.{Scope}
 use Rattle.type_table.specs.declared.table.Table.{Table}
 use Rattle.type_table.specs.Found.{told}
-use Rattle.type_table.specs.Types.{is_scalar}
+use Rattle.typed_program.specs.Shapes.{is_scalar}
 use Rattle.listener_check.specs.declared.constraint.Done.{Done}
 use Rattle.listener_check.specs.declared.sofar.Sofar.{Sofar}
 use Rattle.listener_check.specs.Limits.{short}
@@ -35,9 +35,9 @@ abbrev pub is_any : ConstraintNode → Bool
 is_any node.Any = true
 is_any n = false
 
+-- all but `=`; the grammar has no `!=` here
 abbrev pub orders : Comparison → Bool
 orders comparison.Equal = false
-orders comparison.NotEqual = false
 orders c = true
 
 -- an order or a range

@@ -1,5 +1,5 @@
 -- Templates: their own codes, their constraints, and then their clauses, in order of the source.
-use Rattle.std.specs.Prelude.{ℕ, Bool, ◌||◌, if◌then◌else◌, List, [], ◌∷◌, ◌++◌, length, Option, Some, None, is_some, slice_get}
+use Rattle.std.specs.Prelude.{ℕ, Bool, ◌||◌, nat_le, if◌then◌else◌, List, [], ◌∷◌, ◌++◌, length, Option, Some, None, is_some, slice_get}
 use Rattle.epl_values.specs.declared.shape.Field.{Field}
 use Rattle.epl_values.specs.declared.shape.EventShape.{EventShape}
 use Rattle.epl_tree.specs.declared.name.Name.{Name}
@@ -25,25 +25,30 @@ abbrev pub fields_of : Option EventShape → List Field
 fields_of (Some t) = t.fields
 fields_of None = []
 
--- 1 for a name that is visible or bound before, 19 for one under a `not`
+-- no room for a name: a template binds one, and an event expression 64
+abbrev pub is_full : Option ℕ → List (List ℕ) → Bool
+is_full binds names = is_some binds || nat_le 64 (length names)
+
+-- 1 for a name that is visible or bound before, 19 for one under a `not`, 4 where there is no room
 abbrev pub is_taken : Scope → List (List ℕ) → List ℕ → Bool
 is_taken scope names name = is_some (seen_of scope name) || is_among names name
 
-abbrev pub name_codes : Scope → Bool → List (List ℕ) → List ℕ → List ℕ
-name_codes scope under_not names name = (if is_taken scope names name then 1 ∷ [] else []) ++ (if under_not then 19 ∷ [] else [])
+abbrev pub name_codes : Scope → Bool → Option ℕ → List (List ℕ) → List ℕ → List ℕ
+name_codes scope under_not binds names name = (if is_taken scope names name then 1 ∷ [] else []) ++ (if under_not then 19 ∷ [] else []) ++ (if is_full binds names then 4 ∷ [] else [])
 
 abbrev pub with_name : List ℕ → Sofar → Sofar
 with_name name s = record s { names = s.names ++ name ∷ [] }
 
-unfoldable pub name_read : Scope → Bool → Name → Sofar → Went ℕ
-name_read scope under_not name s = behind (told name.spot (name_codes scope under_not s.names name.text)) (went (short (length s.names)) (with_name name.text s))
+-- a name behind what its template binds so far
+unfoldable pub name_read : Scope → Bool → Option ℕ → Name → Sofar → Went ℕ
+name_read scope under_not binds name s = behind (told name.spot (name_codes scope under_not binds s.names name.text)) (went (short (length s.names)) (with_name name.text s))
 
 abbrev pub no_clauses : Clauses
 no_clauses = record { binds = None; within = None }
 
 module _ (table : Table) (scope : Scope) (inner : Scope) where
   unfoldable pub clause_read : Bool → Clauses → TemplateClause → Sofar → Went Clauses
-  clause_read under_not made (clause.As name) s = name_read scope under_not name s >>= λ place s. went (record made { binds = Some place }) s
+  clause_read under_not made (clause.As name) s = name_read scope under_not made.binds name s >>= λ place s. went (record made { binds = Some place }) s
   clause_read under_not made (clause.Within duration) s = duration_read table scope inner duration s >>= λ at s. went (record made { within = Some at }) s
 
   abbrev pub clauses_read : Bool → List TemplateClause → Sofar → Went Clauses

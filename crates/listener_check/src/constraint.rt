@@ -1,6 +1,6 @@
 ghost use Rattle.std.specs.Prelude.{◌≡◌, ◌||◌, slice_get};
 ghost use Rattle.listener_check.specs.Constraints.{none_done, is_named, is_any, orders, is_ordered, number_of, missing_code, is_boolean, constrains, is_repeated, is_misordered, is_misused, is_unfit, is_refused, place_named, compares_read, lies_read, asked_read, placed_read, found_read, constraint_read, constraints_read};
-ghost use Rattle.type_table.specs.Types.{is_scalar};
+ghost use Rattle.typed_program.specs.Shapes.{is_scalar};
 ghost use Rattle.listener_check.specs.Went.{Goes};
 
 use crate::reader::Reader;
@@ -60,7 +60,6 @@ fn orders(comparison: Comparison) -> bool
 {
     match comparison {
         Comparison::Equal => false,
-        Comparison::NotEqual => false,
         _ => true,
     }
 }
@@ -112,7 +111,7 @@ fn is_boolean(shape: &Shape) -> bool
     }
 }
 
-#[tactic(auto, unfolding(type_table::specs::Types::is_scalar))]
+#[tactic(auto, unfolding(typed_program::specs::Shapes::is_scalar))]
 fn is_scalar(shape: &Shape) -> bool
     ensures { result ≡ is_scalar shape.now }
 {

@@ -1,5 +1,5 @@
 ghost use Rattle.std.specs.Prelude.{◌≡◌, slice_get};
-ghost use Rattle.listener_check.specs.Templates.{is_taken, name_read, clause_read, clauses_read, fields_of, parts_read, typed_read, template_read};
+ghost use Rattle.listener_check.specs.Templates.{is_taken, is_full, name_read, clause_read, clauses_read, fields_of, parts_read, typed_read, template_read};
 ghost use Rattle.listener_check.specs.Limits.{short};
 ghost use Rattle.listener_check.specs.Went.{Goes};
 
@@ -19,6 +19,12 @@ pub struct Clauses {
     pub within: Option<u16>,
 }
 
+fn is_full(binds: Option<u16>, names: &Texts) -> bool
+    ensures { result ≡ is_full binds names.now }
+{
+    binds.is_some() || names.len() >= 64
+}
+
 impl Reader<'_> {
     fn is_taken(&self, names: &Texts, name: &str) -> bool
         ensures { result ≡ is_taken self.now.scope.now names.now name.now }
@@ -27,12 +33,24 @@ impl Reader<'_> {
     }
 
     #[tactic(auto, using(crate::proofs::Going::going), unfolding(crate::specs::Templates::name_read))]
-    fn name(&self, sofar: &mut Sofar, under_not: bool, name: &Name) -> Result<u16, Refusal>
-        ensures { Goes result (name_read self.now.scope.now under_not name.now sofar.old) sofar.new }
+    fn name(
+        &self,
+        sofar: &mut Sofar,
+        under_not: bool,
+        binds: Option<u16>,
+        name: &Name,
+    ) -> Result<u16, Refusal>
+        ensures { Goes result (name_read self.now.scope.now under_not binds name.now sofar.old) sofar.new }
     {
         if self.is_taken(&sofar.names, name.text.as_str()) {
             return Err(Refusal::Fault(Fault {
                 code: 1,
+                spot: name.spot,
+            }));
+        }
+        if is_full(binds, &sofar.names) {
+            return Err(Refusal::Fault(Fault {
+                code: 4,
                 spot: name.spot,
             }));
         }
@@ -60,7 +78,7 @@ impl Reader<'_> {
     {
         match clause {
             TemplateClause::As(name) => {
-                let place = self.name(sofar, under_not, name)?;
+                let place = self.name(sofar, under_not, made.binds, name)?;
                 Ok(Clauses {
                     binds: Some(place),
                     within: made.within,

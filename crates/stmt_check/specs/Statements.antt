@@ -242,9 +242,9 @@ node_reads (stmt.Call e) around spot = call_read around.table e
 
 -- ---- listeners
 
--- 9 where no listener may stand, 4 for a body past the last
+-- 9 where no listener may stand, 4 for a body past the last, and where more names are visible than a callback can number
 abbrev pub on_codes : Around → Bool → State → List ℕ
-on_codes around takes s = when (not takes) 9 ++ when (nat_le 65535 (around.bodies + around.callbacks + length s.sites)) 4
+on_codes around takes s = when (not takes) 9 ++ when (nat_le 65535 (around.bodies + around.callbacks + length s.sites) || nat_le 65000 (length s.scope.names)) 4
 
 abbrev pub callback_read : Around → EventExpr → Part → TypedTerm → Reads State ℕ
 callback_read around event callback term = reads_by (λ s.

@@ -259,7 +259,8 @@ impl<'t, 'r> Body<'t, 'r> {
         ensures { Clears result (told spot (on_codes (around_of self.now) takes state.now)) }
     {
         let bodies = self.bodies.saturating_add(self.callbacks as usize);
-        if bodies.saturating_add(state.sites.len()) >= 65535 {
+        let is_past = bodies.saturating_add(state.sites.len()) >= 65535;
+        if is_past || state.scope.names.len() >= 65000 {
             return Err(Refusal::Fault(Fault { code: 4, spot }));
         }
         if !takes {

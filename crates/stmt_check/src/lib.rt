@@ -1,4 +1,5 @@
-//! Statements, actions and members: the typed program of the files, or their first typing fault.
+//! Statements, actions and members: the typed program of the files, or their first typing fault. `Made` and `State`, which its
+//! definitions pass on, are named for the laws about them.
 #![tactic(auto)]
 
 mod action;
@@ -16,5 +17,7 @@ mod rows;
 mod spawn;
 mod state;
 
+pub use made::Made;
 pub use program::check;
+pub use state::State;
 pub use type_table::CheckFault;

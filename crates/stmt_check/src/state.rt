@@ -4,7 +4,7 @@ use typed_program::Sites;
 
 /// What goes through a body in order of the source.
 #[derive(Drop)]
-pub(crate) struct State {
+pub struct State {
     /// The names that are visible.
     pub scope: Scope,
     /// The locals of the body, behind its parameters.

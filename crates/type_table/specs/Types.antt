@@ -2,54 +2,15 @@
 use Rattle.std.specs.Prelude.{ℕ, Bool, true, false, if◌then◌else◌, List, [], ◌∷◌, ◌++◌, Option, Some, None, ◌||◌, min}
 use Rattle.span_text.specs.declared.spot.Spot.{Spot}
 use Rattle.type_table.specs.declared.fault.Fault.{Fault}
-use Rattle.epl_values.specs.declared.shape.Shape.{Shape, Shape-F, out-Shape, fold-Shape}
+use Rattle.epl_values.specs.declared.shape.Shape.{Shape}
 use Rattle.epl_values.specs.declared.shape.Shape.TheVariants as shape
-use Rattle.epl_values.specs.declared.shape.Shape.TheOpen as layer
 use Rattle.epl_tree.specs.declared.types.TypeExpr.{TypeExpr, TypeExpr-F, fold-TypeExpr}
 use Rattle.epl_tree.specs.declared.types.TypeNode.{TypeNode-F}
 use Rattle.epl_tree.specs.declared.types.TypeNode.TheOpen as node
+use Rattle.typed_program.specs.Shapes.{is_scalar}
 use Rattle.type_table.specs.declared.table.Table.{Table}
 use Rattle.type_table.specs.Found.{Found, told}
 use Rattle.type_table.specs.Table.{event_of}
-
--- integers, booleans and texts
-abbrev pub is_scalar_layer : Shape-F Shape → Bool
-is_scalar_layer layer.Integer = true
-is_scalar_layer layer.Boolean = true
-is_scalar_layer layer.Text = true
-is_scalar_layer s = false
-
-unfoldable pub is_scalar : Shape → Bool
-is_scalar s = is_scalar_layer (out-Shape s)
-
--- sequences, dictionaries and events
-abbrev pub is_reference_layer : Shape-F Shape → Bool
-is_reference_layer (layer.Sequence item) = true
-is_reference_layer (layer.Dictionary key value) = true
-is_reference_layer (layer.Event n) = true
-is_reference_layer s = false
-
-unfoldable pub is_reference : Shape → Bool
-is_reference s = is_reference_layer (out-Shape s)
-
--- whether a leaf of a shape, at any depth of collections, is met: an event type by its number, contexts and listeners by link
-module _ (link : Bool) (event : ℕ → Bool) where
-  abbrev pub meets_step : Shape-F Bool → Bool
-  meets_step layer.Integer = false
-  meets_step layer.Boolean = false
-  meets_step layer.Text = false
-  meets_step (layer.Sequence item) = item
-  meets_step (layer.Dictionary key value) = key || value
-  meets_step (layer.Event n) = event n
-  meets_step layer.Context = link
-  meets_step layer.Listener = link
-
-  abbrev pub meets : Shape → Bool
-  meets = fold-Shape Bool meets_step
-
--- whether a context or a listener is in a shape at any depth of collections
-abbrev pub holds_link : Shape → Bool
-holds_link = meets true (λ n. false)
 
 abbrev pub sound : Shape → Found Shape
 sound s = record { faults = []; part = s }

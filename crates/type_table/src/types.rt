@@ -1,7 +1,8 @@
 ghost use Rattle.std.specs.Prelude.{◌≡◌, ◌≤◌, length, IfOk, min};
 ghost use Rattle.type_table.specs.Found.{Finds};
 ghost use Rattle.type_table.specs.Names.{number_in};
-ghost use Rattle.type_table.specs.Types.{type_by, type_found, known, is_scalar, is_reference, holds_link, event_shape, dictionary_of, sequence_of};
+ghost use Rattle.type_table.specs.Types.{type_by, type_found, known, event_shape, dictionary_of, sequence_of};
+ghost use Rattle.typed_program.specs.Shapes.{is_scalar, is_reference, holds_link};
 ghost use Rattle.span_text.specs.declared.spot.Spot.{Spot as Spotted};
 
 use crate::fault::{Fault, Refusal};
@@ -14,7 +15,7 @@ use sqlite_items::Boxed;
 use std::alloc::{AllocError, Global};
 
 /// Whether it is the shape of integers, booleans or texts.
-#[tactic(auto, unfolding(crate::specs::Types::is_scalar))]
+#[tactic(auto, unfolding(typed_program::specs::Shapes::is_scalar))]
 pub fn is_scalar(shape: &Shape) -> bool
     ensures { result ≡ is_scalar shape.now }
 {
@@ -27,7 +28,7 @@ pub fn is_scalar(shape: &Shape) -> bool
 }
 
 /// Whether it is the shape of sequences, dictionaries or events.
-#[tactic(auto, unfolding(crate::specs::Types::is_reference))]
+#[tactic(auto, unfolding(typed_program::specs::Shapes::is_reference))]
 pub fn is_reference(shape: &Shape) -> bool
     ensures { result ≡ is_reference shape.now }
 {
