@@ -1,4 +1,4 @@
--- What is so of each program that is built: its event types can be read in event files, and it has one monitor.
+-- What is so of each program that is built: it is well typed, its event types can be read in event files, and it has one monitor.
 use Rattle.std.proofs.Common.{◌≡◌, ℕ, ◌≤◌, List, [], ◌∷◌, ◌++◌, map, length, true, refl, sym, ◌∙◌, ap, subst, arith, true≢false, Option, Some, None, Result, Ok, Err, IfOk}
 use Rattle.epl_values.specs.declared.shape.EventShape.{EventShape}
 use Rattle.epl_tree.specs.declared.unit.Declaration.{Declaration}
@@ -15,10 +15,12 @@ use Rattle.type_table.specs.Gathers.{numbers}
 use Rattle.type_table.specs.Kinds.{kinds_of}
 use Rattle.typed_program.specs.declared.program.Program.{Program}
 use Rattle.typed_program.specs.declared.program.Monitor.{Monitor}
+use Rattle.typed_program.specs.Typed.{Typed}
 use Rattle.stmt_check.specs.Actions.{action_read, body_read}
 use Rattle.stmt_check.specs.Members.{members_read, monitor_read}
 use Rattle.stmt_check.specs.Programs.{IsProgram as IsTyped, declarations_read, nothing_made, made_of}
 use Rattle.stmt_check.specs.Steps.{◌>>=◌, pure, given, tells, changes, within, reads_by, optional}
+use Rattle.program_check.proofs.Checked.{program_is_typed}
 use Rattle.first_form.specs.Form.{is_built_member, are_built_members, is_built_monitor, are_built}
 use Rattle.program_reader.specs.Built.{is_built}
 use Rattle.program_reader.specs.declared.fault.ProgramFault.{ProgramFault}
@@ -66,6 +68,9 @@ program_monitors bytes p k =
     let one : length p.monitors ≡ 1 = ap length monitors ∙ declarations-count k.typed.table k.tree.declarations (declarations-built (length bytes) k.tree k.built) in
     omega arith
 
+pub program_typed : (bytes : List ℕ) (p : Program) → IsProgram bytes p → Typed p
+program_typed bytes p k = program_is_typed (k.tree ∷ []) p k.typed
+
 -- the same of an answer
 pub told_types : (bytes : List ℕ) (r : Result Program ProgramFault) → TellsProgram bytes r → IfOk r (λ p. AreEventTypes p.types)
 told_types bytes (Ok p) t = program_types bytes p t.0
@@ -74,3 +79,7 @@ told_types bytes (Err why) t = record {}
 pub told_monitors : (bytes : List ℕ) (r : Result Program ProgramFault) → TellsProgram bytes r → IfOk r (λ p. length p.monitors ≤ 65535)
 told_monitors bytes (Ok p) t = program_monitors bytes p t.0
 told_monitors bytes (Err why) t = record {}
+
+pub told_typed : (bytes : List ℕ) (r : Result Program ProgramFault) → TellsProgram bytes r → IfOk r Typed
+told_typed bytes (Ok p) t = program_typed bytes p t.0
+told_typed bytes (Err why) t = record {}

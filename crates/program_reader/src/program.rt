@@ -1,4 +1,5 @@
 ghost use Rattle.std.specs.Prelude.{◌≡◌, ◌≤◌, ◌<◌, length, IfOk};
+ghost use Rattle.typed_program.specs.Typed.{Typed};
 ghost use Rattle.evt_text.specs.Forms.{AreEventTypes};
 ghost use Rattle.program_reader.specs.Built.{is_built};
 ghost use Rattle.program_reader.specs.Programs.{TellsProgram};
@@ -11,8 +12,8 @@ use epl_tree::{Unit, Units};
 use epl_values::Memory;
 use expr_parser::ParseFault;
 use first_form::is_first_form;
+use program_check::check;
 use std::alloc::Global;
-use stmt_check::check;
 use type_table::CheckFault;
 use typed_program::Program;
 
@@ -77,10 +78,11 @@ fn program_of(alloc: Global, bytes: usize, tree: Unit) -> Result<Program, Progra
 }
 
 /// The program of a file's bytes, or why there is none.
-#[tactic(auto, using(crate::proofs::Telling::tokens_refused, crate::proofs::Telling::tree_refused, crate::proofs::Telling::program_told, crate::proofs::Laws::program_types, crate::proofs::Laws::program_monitors))]
+#[tactic(auto, using(crate::proofs::Telling::tokens_refused, crate::proofs::Telling::tree_refused, crate::proofs::Telling::program_told, crate::proofs::Laws::program_types, crate::proofs::Laws::program_monitors, crate::proofs::Laws::program_typed))]
 pub fn program_from(alloc: Global, bytes: &[u8]) -> Result<Program, ProgramFault>
     requires { length bytes.now < 4294967295 }
     ensures program { TellsProgram bytes.now result }
+    ensures typed { IfOk result Typed }
     ensures types { IfOk result (λ p. AreEventTypes p.types) }
     ensures monitors { IfOk result (λ p. length p.monitors ≤ 65535) }
 {

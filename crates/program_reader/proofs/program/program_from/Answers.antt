@@ -1,7 +1,7 @@
 use Rattle.std.proofs.Common.{rules, ◌≡◌, Ok, subst}
 use Rattle.program_reader.specs.Programs.{TellsProgram}
 use Rattle.program_reader.specs.Steps.{TokensTold, TreeTold}
-use Rattle.program_reader.proofs.Laws.{told_types, told_monitors}
+use Rattle.program_reader.proofs.Laws.{told_types, told_monitors, told_typed}
 use Rattle.program_reader.proofs.Telling.{program_told}
 use Rattle.program_reader.proofs.program.program_from.Goals as goal
 
@@ -16,3 +16,6 @@ returns-clause-types c = told_types c.args.bytes.now c.program_of.result (return
 -- src/program.rt:80:1
 pub returns-clause-monitors : goal.returns-clause-monitors
 returns-clause-monitors c = told_monitors c.args.bytes.now c.program_of.result (returns-clause-program c)
+
+pub returns-clause-typed : goal.returns-clause-typed
+returns-clause-typed c = told_typed c.args.bytes.now c.program_of.result (returns-clause-program c)

@@ -1,0 +1,9 @@
+pub mod Room
+pub mod Statements
+pub mod Members
+pub mod Names
+pub mod Kinds
+pub mod Chains
+pub mod Cycles
+pub mod Widths
+pub mod Whole
