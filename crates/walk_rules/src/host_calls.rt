@@ -260,17 +260,17 @@ pub fn current<H: Host>(host: &H) -> Value
     Value::Context(host.slot())
 }
 
-/// What `on` does at a site: its event expression, how many leaves begin where that starts, the operands, and what the
-/// callback takes along.
+/// What `on` does at a site: its event expression, how many leaves begin where that starts (or the greatest number, where that
+/// is more), the operands, and what the callback takes along.
 pub fn listen<H: Host>(
     host: &mut H,
     site: u16,
     term: &Term,
-    leaves: usize,
+    leaves: u64,
     operands: Values,
     captured: Values,
 ) -> Result<Value, Stop>
-    requires { leaves ≡ starting term.now }
+    requires { leaves ≡ min (2 ^ 64 - 1) (starting term.now) }
     ensures { (frame : Frame) → Walks (listen site term.now operands captured) (H.told host.old) frame (H.told host.new) frame result }
 {
     let amount = listen_cost(host, term, leaves);
@@ -278,14 +278,14 @@ pub fn listen<H: Host>(
     perform(host, Effect::Listen(site, operands, captured))
 }
 
-fn listen_cost<H: Host>(host: &H, term: &Term, leaves: usize) -> u64
-    requires { leaves ≡ starting term.now }
+fn listen_cost<H: Host>(host: &H, term: &Term, leaves: u64) -> u64
+    requires { leaves ≡ min (2 ^ 64 - 1) (starting term.now) }
     ensures { result ≡ min (2 ^ 64 - 1) (listen_cost term.now (H.told host.now).scene) }
 {
     if host.is_ending() {
         10
     } else {
-        (leaves as u64).saturating_add(10)
+        leaves.saturating_add(10)
     }
 }
 
