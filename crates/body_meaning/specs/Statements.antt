@@ -16,12 +16,13 @@ use Rattle.typed_program.specs.declared.statement.TypedPlace.{TypedPlace}
 use Rattle.typed_program.specs.declared.statement.Variable.TheVariants as variable
 use Rattle.value_rules.specs.Costs.{cost_of}
 use Rattle.value_rules.specs.Defaults.{default_of}
+use Rattle.action_host.specs.declared.host.Fault.TheVariants as fault
 use Rattle.body_meaning.specs.declared.run.Flow.{Flow}
 use Rattle.body_meaning.specs.declared.run.Flow.TheVariants.{Next, Broke, Continued, Returned}
 use Rattle.body_meaning.specs.declared.run.Halt.TheVariants.{Died, Spent}
 use Rattle.body_meaning.specs.declared.run.Frame.{Frame}
 use Rattle.body_meaning.specs.declared.run.Move.{Move}
-use Rattle.body_meaning.specs.Runs.{M, ◌>>=◌, ◌>>◌, pure, halt, charge, look, change, choose, all}
+use Rattle.body_meaning.specs.Runs.{M, ◌>>=◌, ◌>>◌, pure, halt, given, charge, look, change, choose, all}
 use Rattle.body_meaning.specs.Values.{truth_of, items_of}
 use Rattle.body_meaning.specs.Paths.{store, set_local, variable_in}
 use Rattle.body_meaning.specs.Effects.{print, log, route, send, spawn_here, spawn_to, globals_then, subscribe, unsubscribe, listen}
@@ -91,14 +92,15 @@ set n v = change (set_local n v) >> pure Next
 unfoldable pub assign : TypedPlace → List (M Move) → M Value → M Flow
 assign place moves m = all moves >>= (λ to. m >>= (λ v. change (store place.variable to v) >> pure Next))
 
-abbrev pub put_first : {A : Type 0} → Option A → List A → List A
-put_first None xs = xs
-put_first (Some x) xs = x ∷ xs
+-- a step that isn't one of a path leads nowhere
+abbrev pub move_of : Option (M Move) → M Move
+move_of None = given (Err fault.IndexOutOfRange)
+move_of (Some m) = m
 
--- the steps of a place that is assigned, which are all steps of a path
+-- the steps of a place that is assigned
 abbrev pub moves_in : List Reach → List (M Move)
 moves_in [] = []
-moves_in (r ∷ rs) = put_first r.move (moves_in rs)
+moves_in (r ∷ rs) = move_of r.move ∷ moves_in rs
 
 abbrev pub level_number : Level → ℕ
 level_number level.Crit = 0
