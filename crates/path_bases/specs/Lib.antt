@@ -1,0 +1,4 @@
+pub mod Locals
+pub mod Tells
+pub mod Bases
+pub mod Stops
