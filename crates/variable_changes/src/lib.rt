@@ -1,0 +1,6 @@
+//! Changes of variables, in place.
+#![tactic(auto)]
+
+mod variables;
+
+pub use variables::{Change, change_variable, set_local};
