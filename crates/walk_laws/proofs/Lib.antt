@@ -1,0 +1,15 @@
+pub mod Grouping
+pub mod Telling
+pub mod Finding
+pub mod Reaching
+pub mod Looping
+pub mod Stating
+pub mod Lending
+pub mod Placing
+pub mod Changing
+pub mod Still
+pub mod Calming
+pub mod Unchanged
+pub mod Holding
+pub mod Entering
+pub mod Beginning
