@@ -1,0 +1,5 @@
+pub mod Placed
+pub mod Singly
+pub mod Orders
+pub mod Telling
+pub mod Turns

@@ -1,0 +1,6 @@
+pub mod Means
+pub mod Singles
+pub mod Flows
+pub mod Steps
+pub mod Roots
+pub mod Found

@@ -1,0 +1,7 @@
+//! Runs the statements of bodies over their trees.
+#![tactic(auto)]
+
+mod changing;
+mod statements;
+
+pub use statements::Body;
