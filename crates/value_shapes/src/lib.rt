@@ -1,0 +1,2 @@
+//! Values keep their shapes under the steps of bodies: parts, changes in place, methods, defaults.
+#![tactic(auto)]
