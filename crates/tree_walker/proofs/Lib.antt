@@ -1,0 +1,7 @@
+pub mod Coming
+pub mod Locals
+pub mod Statements
+pub mod Initials
+pub mod Begun
+pub mod Acting
+pub mod Shapes
