@@ -1,0 +1,188 @@
+-- Which bodies may run in an instance: `onload` and `ondie` of its monitor, and the callbacks of its listeners.
+use Rattle.std.proofs.Common.{◌≡◌, ℕ, zero, suc, ◌+◌, ◌-◌, ◌≤◌, List, [], ◌∷◌, ◌++◌, map, length, slice_get, Bool, true, Option, Some, None, refl, sym, ap, subst, ◌∙◌, arith, option_map, find}
+use Rattle.std.specs.List.{list_all}
+use Rattle.std.proofs.lemmas.Bool.{and_parts, and_from, eqb-true, lt-ltb, le-ltb, cond-true, cond-false, cond_both}
+use Rattle.std.proofs.lemmas.Option.{same_Some, slice_get_within, slice_get-map, cond_some}
+use Rattle.epl_values.specs.declared.shape.Shape.{Shape}
+use Rattle.epl_values.specs.declared.shape.Shape.TheVariants as shape
+use Rattle.epl_values.specs.declared.shape.EventShape.{EventShape}
+use Rattle.epl_values.specs.declared.value.Value.{Value, Value-F, out-Value}
+use Rattle.epl_values.specs.declared.value.Value.TheOpen as layer
+use Rattle.epl_values.specs.declared.value.Pair.{Pair}
+use Rattle.typed_program.specs.declared.program.Program.{Program}
+use Rattle.typed_program.specs.declared.program.Action.{Action}
+use Rattle.typed_program.specs.declared.program.Monitor.{Monitor}
+use Rattle.typed_program.specs.declared.program.Site.{Site}
+use Rattle.typed_program.specs.declared.program.Local.{Local}
+use Rattle.typed_program.specs.declared.term.TemplateShape.{TemplateShape}
+use Rattle.typed_program.specs.declared.term.Term.{Term, Term-F, out-Term, map-Term, fold_out-Term}
+use Rattle.typed_program.specs.declared.term.Term.TheOpen as term
+use Rattle.typed_program.specs.Shapes.{same, stands}
+use Rattle.typed_program.specs.Expressions.{if_known}
+use Rattle.typed_program.specs.Terms.{Around, binds_so, fits_term, template_so, term_so}
+use Rattle.typed_program.specs.Programs.{ends_plain, is_plain, monitor_so, monitors_so, runs_plain, site_around, site_so}
+use Rattle.typed_program.specs.Typed.{Typed}
+use Rattle.value_rules.specs.Defaults.{default_of}
+use Rattle.value_shapes.specs.Fits.{Fit, AllFit, IsEvent}
+use Rattle.value_shapes.proofs.Lists.{fit_nil, fit_cons, fit_append}
+use Rattle.value_shapes.proofs.Defaults.{default_fits}
+use Rattle.value_shapes.proofs.Same.{same_is}
+use Rattle.typed_runs.specs.Bodies.{action_head, callback_head, head_of}
+use Rattle.context_meaning.specs.declared.context.Instance.{Instance}
+use Rattle.context_meaning.specs.declared.context.Listener.{Listener}
+use Rattle.context_meaning.specs.Contexts.{is_instance}
+use Rattle.context_meaning.specs.Ends.{ondie_of}
+use Rattle.context_meaning.specs.Turns.{binds_at, body_number, bound_from, callback_locals, fits, is_of_type, is_plain as asks_nothing, plain_in, template_in, template_of, type_in}
+use Rattle.context_meaning.specs.Fits.{ListenerFits, MayRun}
+
+-- ---- lists of which all pass a test
+
+-- the one at a place passes
+pub at_place : {A : Type 0} (p : A → Bool) (xs : List A) (k : ℕ) (x : A) → list_all p xs ≡ true → slice_get xs k ≡ Some x → p x ≡ true
+at_place p [] k x all h = cc
+at_place p (y ∷ xs) zero x all h = subst (λ z. p z ≡ true) (same_Some y x h) (and_parts (p y) (list_all p xs) all).0
+at_place p (y ∷ xs) (suc k) x all h = at_place p xs k x (and_parts (p y) (list_all p xs) all).1 h
+
+-- those at the front pass
+pub first_all : {A : Type 0} (p : A → Bool) (xs ys : List A) → list_all p (xs ++ ys) ≡ true → list_all p xs ≡ true
+first_all p [] ys h = refl
+first_all p (x ∷ xs) ys h = let b = and_parts (p x) (list_all p (xs ++ ys)) h in and_from (p x) (list_all p xs) b.0 (first_all p xs ys b.1)
+
+-- those at the end pass
+pub last_all : {A : Type 0} (p : A → Bool) (xs ys : List A) → list_all p (xs ++ ys) ≡ true → list_all p ys ≡ true
+last_all p [] ys h = h
+last_all p (x ∷ xs) ys h = last_all p xs ys (and_parts (p x) (list_all p (xs ++ ys)) h).1
+
+-- ---- templates
+
+-- a plain template that is as it should be
+in_plain : (around : Around) (d : Term-F Term) (x : TemplateShape) → term_so around (map-Term Term Bool (fits_term around) d) ≡ true → plain_in d ≡ Some x → template_so around x ≡ true
+in_plain around (term.Template t) x so h = subst (λ y. template_so around y ≡ true) (cond_some (asks_nothing t) t x h).1 so
+in_plain around d x so h = cc
+
+-- the same behind `all`
+in_all : (around : Around) (d : Term-F Term) (x : TemplateShape) → term_so around (map-Term Term Bool (fits_term around) d) ≡ true → template_in d ≡ Some x → template_so around x ≡ true
+in_all around (term.All inner) x so h = in_plain around (out-Term inner) x (sym (fold_out-Term Bool (term_so around) inner) ∙ so) h
+in_all around d x so h = cc
+
+-- the template of a term that is as it should be
+template_there : (around : Around) (t : Term) (x : TemplateShape) → fits_term around t ≡ true → template_of t ≡ Some x → template_so around x ≡ true
+template_there around t x so h = in_all around (out-Term t) x (sym (fold_out-Term Bool (term_so around) t) ∙ so) h
+
+-- a bound name is an event of the template's type
+name_shape : (types : List EventShape) (operands : List (Option Shape)) (event : ℕ) (bs : List Local) (o : Option ℕ) (k : ℕ) (b : Local) → binds_so (record { types = types; operands = operands; bound = map (λ c. c.shape) bs }) event o ≡ true → o ≡ Some k → slice_get bs k ≡ Some b → shape.Event event ≡ b.shape
+name_shape types operands event bs None k b so is h = cc
+name_shape types operands event bs (Some n) k b so is h = same_is (shape.Event event) b.shape (subst (λ (s : Option Shape). if_known (same (shape.Event event)) s ≡ true) (slice_get-map (λ (c : Local). c.shape) bs n ∙ ap (option_map (λ (c : Local). c.shape)) (ap (slice_get bs) (same_Some n k is) ∙ h)) so)
+
+-- an event that fits a template is of its type
+event_is : (types : List EventShape) (n : ℕ) (v : Value) (l : Value-F Value Pair) → is_of_type n (type_in l) ≡ true → IsEvent types v l → Fit types v (shape.Event n)
+event_is types n v (layer.Event m fields) h f = subst (λ k. Fit types v (shape.Event k)) (eqb-true m n h) f
+event_is types n v l h f = absurd f
+
+-- the name that a template binds
+binds_is : (o : Option ℕ) (n : ℕ) → binds_at o n ≡ true → o ≡ Some n
+binds_is None n h = cc
+binds_is (Some m) n h = ap Some (eqb-true m n h)
+
+-- an action of this monitor without parameters
+plain_parts : (monitor : ℕ) (params : List Shape) (a : Action) → is_plain monitor params a ≡ true → (params ≡ []) × (a.monitor ≡ monitor)
+plain_parts monitor [] a h = (refl, eqb-true a.monitor monitor (and_parts _ _ h).0)
+plain_parts monitor (s ∷ ss) a h = cc
+
+-- an action that may be there, and passes
+plain_there : (monitor : ℕ) (o : Option Action) → if_known (λ (a : Action). is_plain monitor a.params a) o ≡ true → (a : Action) × (o ≡ Some a) × (is_plain monitor a.params a ≡ true)
+plain_there monitor None h = cc
+plain_there monitor (Some a) h = (a, refl, h)
+
+module _ (program : Program) (typed : Typed program) where
+  -- ---- `onload` and `ondie`
+
+  -- a monitor among those whose numbers begin with this one
+  at_monitor : (ms : List Monitor) (number k : ℕ) (m : Monitor) → monitors_so program number ms ≡ true → slice_get ms k ≡ Some m → monitor_so program (number + k) m ≡ true
+  at_monitor [] number k m so h = cc
+  at_monitor (x ∷ ms) number zero m so h =
+      let is : number ≡ number + 0 = omega arith in
+      subst (λ n. monitor_so program n m ≡ true) is (subst (λ y. monitor_so program number y ≡ true) (same_Some x m h) (and_parts (monitor_so program number x) (monitors_so program (1 + number) ms) so).0)
+  at_monitor (x ∷ ms) number (suc k) m so h =
+      let is : (1 + number) + k ≡ number + suc k = omega arith in
+      subst (λ n. monitor_so program n m ≡ true) is (at_monitor ms (1 + number) k m (and_parts (monitor_so program number x) (monitors_so program (1 + number) ms) so).1 h)
+
+  -- a monitor that is there is as it should be
+  pub monitor_there : (n : ℕ) (m : Monitor) → slice_get program.monitors n ≡ Some m → monitor_so program n m ≡ true
+  monitor_there n m h =
+      let is : 0 + n ≡ n = omega arith in
+      subst (λ k. monitor_so program k m ≡ true) is (at_monitor program.monitors 0 n m typed.shapes.monitors h)
+
+  -- the head of an action
+  head_action : (n : ℕ) (a : Action) → slice_get program.actions n ≡ Some a → head_of program n ≡ Some (action_head a)
+  head_action n a h = cond-true _ _ _ (lt-ltb n (length program.actions) (slice_get_within program.actions n a h)) ∙ ap (option_map action_head) h
+
+  -- an action that takes nothing may run in an instance of its monitor
+  plain_may : (monitor n : ℕ) (j : Instance) → runs_plain program monitor n ≡ true → j.monitor ≡ monitor → MayRun program n [] j
+  plain_may monitor n j plain is =
+      let there = plain_there monitor (slice_get program.actions n) plain in
+      let parts = plain_parts monitor there.0.params there.0 there.2 in
+      record { head = action_head there.0; is = head_action n there.0 there.1; same = parts.1 ∙ sym is; locals_fit = subst (λ ps. AllFit program.types [] ps) (sym parts.0) (fit_nil program.types) }
+
+  -- `ondie` of a monitor takes nothing
+  ondie_plain : (n body : ℕ) (o : Option Monitor) → slice_get program.monitors n ≡ o → ondie_of program o ≡ Some body → runs_plain program n body ≡ true
+  ondie_plain n body None there is = cc
+  ondie_plain n body (Some m) there is = subst (λ o. ends_plain program n o ≡ true) is (and_parts _ (ends_plain program n m.ondie) (monitor_there n m there)).1
+
+  -- `ondie` of a monitor may run in its instances
+  pub ondie_may : (monitor body : ℕ) (j : Instance) → ondie_of program (slice_get program.monitors monitor) ≡ Some body → j.monitor ≡ monitor → MayRun program body [] j
+  ondie_may monitor body j is same = plain_may monitor body j (ondie_plain monitor body (slice_get program.monitors monitor) refl is) same
+
+  -- and so may `onload`
+  pub onload_may : (n : ℕ) (m : Monitor) (j : Instance) → slice_get program.monitors n ≡ Some m → j.monitor ≡ n → MayRun program m.onload [] j
+  onload_may n m j there same = plain_may n m.onload j (and_parts _ (runs_plain program n m.onload) (and_parts _ (ends_plain program n m.ondie) (monitor_there n m there)).0).1 same
+
+  -- ---- callbacks
+
+  -- the names that a template binds
+  bound_fits : (e : Value) (o : Option ℕ) (n : ℕ) (bs : List Local) → list_all (stands program.types) (map (λ (b : Local). b.shape) bs) ≡ true → ((k : ℕ) (b : Local) → o ≡ Some (n + k) → slice_get bs k ≡ Some b → Fit program.types e b.shape) → AllFit program.types (bound_from program.types o e n bs) (map (λ (b : Local). b.shape) bs)
+  bound_fits e o n [] all known = fit_nil program.types
+  bound_fits e o n (b ∷ bs) all known =
+      let stand = and_parts (stands program.types b.shape) (list_all (stands program.types) (map (λ (c : Local). c.shape) bs)) all in
+      let first : n ≡ n + 0 = omega arith in
+      fit_cons program.types _ (bound_from program.types o e (n + 1) bs) b.shape (map (λ (c : Local). c.shape) bs)
+      (cond_both (binds_at o n) e (default_of program.types b.shape) (λ v. Fit program.types v b.shape) (λ h. known 0 b (binds_is o n h ∙ ap Some first) refl) (λ _. default_fits program typed b.shape stand.0))
+      (bound_fits e o (n + 1) bs stand.1 (λ k c is h. let next : (n + 1) + k ≡ n + suc k = omega arith in known (suc k) c (is ∙ ap Some next) h))
+
+  -- a site that is there is as it should be
+  site_there : (n : ℕ) (site : Site) → slice_get program.sites n ≡ Some site → site_so program site ≡ true
+  site_there n site h = at_place (site_so program) program.sites n site typed.shapes.sites h
+
+  -- what stands of a site that is as it should be
+  site_parts : (site : Site) → site_so program site ≡ true → (fits_term (site_around program site) site.term ≡ true) × (list_all (stands program.types) (map (λ (b : Local). b.shape) site.bound) ≡ true)
+  site_parts site so =
+      let most = (and_parts _ _ so).0 in
+      let both = and_parts _ (fits_term (site_around program site) site.term) most in
+      (both.1, last_all (stands program.types) (map (λ (c : Local). c.shape) site.captured) (map (λ (b : Local). b.shape) site.bound) (first_all (stands program.types) _ site.locals (and_parts _ _ both.0).1))
+
+  -- the head of a callback
+  head_callback : (n : ℕ) (site : Site) → slice_get program.sites n ≡ Some site → head_of program (body_number program n) ≡ Some (callback_head site)
+  head_callback n site h =
+      let past : length program.actions ≤ length program.actions + n = omega arith in
+      let back : (length program.actions + n) - length program.actions ≡ n = omega arith in
+      cond-false _ _ _ (le-ltb (length program.actions + n) (length program.actions) past) ∙ ap (option_map callback_head) (ap (slice_get program.sites) back ∙ h)
+
+  -- the locals that a callback begins with have the shapes of its parameters
+  locals_of : (site : Site) (captured : List Value) (t : TemplateShape) (e : Value) → site_so program site ≡ true → AllFit program.types captured (map (λ (c : Local). c.shape) site.captured) → template_of site.term ≡ Some t → fits t e ≡ true → IsEvent program.types e (out-Value e) → AllFit program.types (callback_locals program.types t site captured e) (callback_head site).params
+  locals_of site captured t e so held is fit event =
+      let parts = site_parts site so in
+      let around = site_around program site in
+      let binds = (and_parts _ (binds_so around t.event t.binds) (and_parts _ _ (template_there around site.term t parts.0 is)).0).1 in
+      fit_append program.types captured (bound_from program.types t.binds e 0 site.bound) (map (λ (c : Local). c.shape) site.captured) (map (λ (b : Local). b.shape) site.bound) held
+      (bound_fits e t.binds 0 site.bound parts.1 (λ k b at there. let same : 0 + k ≡ k = omega arith in subst (Fit program.types e) (name_shape program.types around.operands t.event site.bound t.binds k b binds (at ∙ ap Some same) there) (event_is program.types t.event e (out-Value e) fit event)))
+
+  -- the callback of a listener may run in its instance, with what it took along and the event
+  pub callback_may : (begun : ℕ) (instances : List Instance) (l : Listener) (site : Site) (t : TemplateShape) (e : Value) (i : Instance) → ListenerFits program begun instances l → slice_get program.sites l.site ≡ Some site → template_of site.term ≡ Some t → fits t e ≡ true → IsEvent program.types e (out-Value e) → find (is_instance l.instance) instances ≡ Some i → MayRun program (body_number program l.site) (callback_locals program.types t site l.captured e) i
+  callback_may begun instances l site t e i f there is fit event found =
+      let one = same_Some f.site site (sym f.there ∙ there) in
+      record {
+        head = callback_head site;
+        is = head_callback l.site site there;
+        same = sym (f.monitor i found ∙ ap (λ (s : Site). s.monitor) one);
+        locals_fit = locals_of site l.captured t e (site_there l.site site there) (subst (λ (s : Site). AllFit program.types l.captured (map (λ (c : Local). c.shape) s.captured)) one f.captured) is fit event;
+      }

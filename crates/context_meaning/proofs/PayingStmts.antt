@@ -1,0 +1,202 @@
+-- Statements pay for what they route.
+use Rattle.std.proofs.Common.{◌≡◌, ℕ, zero, suc, List, [], ◌∷◌, map, Option, Some, None, sym, subst, Err}
+use Rattle.std.specs.Prelude.{slice_get}
+use Rattle.std.specs.List.{AllByRecursion}
+use Rattle.epl_values.specs.declared.shape.EventShape.{EventShape}
+use Rattle.epl_values.specs.declared.value.Value.{Value}
+use Rattle.value_rules.specs.Costs.{cost_of}
+use Rattle.typed_program.specs.declared.program.Site.{Site}
+use Rattle.typed_program.specs.declared.expression.TypedExpr.{TypedExpr}
+use Rattle.typed_program.specs.declared.expression.TypedSuffix.{TypedSuffix}
+use Rattle.typed_program.specs.declared.statement.TypedPlace.{TypedPlace}
+use Rattle.typed_program.specs.declared.statement.Stmt.{Stmt, Stmt-F, map-Stmt, roll-Stmt, fold-roll-Stmt, ind-Stmt}
+use Rattle.typed_program.specs.declared.statement.Stmt.TheOpen as stmt
+use Rattle.action_host.specs.declared.host.Fault.TheVariants as fault
+use Rattle.body_meaning.specs.declared.run.Flow.{Flow}
+use Rattle.body_meaning.specs.declared.run.Flow.TheVariants.{Next, Broke, Continued, Returned}
+use Rattle.body_meaning.specs.declared.run.Halt.TheVariants.{Died, Spent}
+use Rattle.body_meaning.specs.declared.run.Move.{Move}
+use Rattle.body_meaning.specs.Runs.{M}
+use Rattle.body_meaning.specs.Values.{items_of, truth_of}
+use Rattle.body_meaning.specs.Paths.{set_local, store}
+use Rattle.body_meaning.specs.Expressions.{Calls, Reach, reach_of, value_of}
+use Rattle.body_meaning.specs.Statements.{again, assign, begun, body_of, done, each, elements_of, for_of, is_next, level_number, listen_at, listener_of, move_of, moves_in, place_moves, returned, row, set, spawned, stmt_meant, stmt_of, turns, while_of}
+use Rattle.context_meaning.proofs.Paying.{Pays, pays_pure, pays_halt, pays_look, pays_charge, pays_change, pays_bind, pays_seq, pays_choose, pays_all, pays_route, pays_given}
+use Rattle.context_meaning.proofs.PayingCalls.{pays_print, pays_log, pays_send, pays_spawn_here, pays_spawn_to, pays_globals, pays_subscribe, pays_unsubscribe, pays_listen}
+use Rattle.context_meaning.proofs.PayingExprs.{AllPay, CallsPay, MovePays, StepPays, expr_pays, step_pays, values_paid}
+
+-- ---- rows and loops
+
+-- statements in a row
+pays_row : (ms : List (M Flow)) → AllPay ms → Pays (row ms)
+pays_row [] h = pays_pure Next
+pays_row (m ∷ ms) h = pays_bind _ h.0 (λ flow. pays_choose (is_next flow) (pays_row ms h.1) (pays_pure flow))
+
+-- a turn behind a flow
+pays_again : (m : M Flow) (flow : Flow) → Pays m → Pays (again m flow)
+pays_again m Next k = k
+pays_again m Continued k = k
+pays_again m Broke k = pays_pure Next
+pays_again m (Returned v) k = pays_pure (Returned v)
+
+-- turns of a loop
+pays_turns : (n : ℕ) (test : M Value) (body : M Flow) → Pays test → Pays body → Pays (turns n test body)
+unfolding turns
+pays_turns zero test body t b = pays_halt Spent
+pays_turns (suc n) test body t b = pays_bind _ (pays_seq (pays_charge 1) t) (λ v. pays_choose (truth_of v) (pays_bind _ b (λ flow. pays_again (turns n test body) flow (pays_turns n test body t b))) (pays_pure Next))
+
+-- a loop that tests
+pays_while : (test : M Value) (body : M Flow) → Pays test → Pays body → Pays (while_of test body)
+unfolding while_of
+pays_while test body t b = record { from = λ s. (pays_turns (suc s.scene.fuel) test body t b).from s }
+
+-- a loop over values
+pays_each : (n : ℕ) (vs : List Value) (body : M Flow) → Pays body → Pays (each n vs body)
+pays_each n [] body b = pays_pure Next
+pays_each n (v ∷ vs) body b = pays_bind _ (pays_seq (pays_seq (pays_charge 1) (pays_change (set_local n v))) b) (λ flow. pays_again (each n vs body) flow (pays_each n vs body b))
+
+-- the elements of a sequence
+pays_elements : (m : M Value) → Pays m → Pays (elements_of m)
+unfolding elements_of
+pays_elements m k = pays_bind _ k (λ v. pays_seq (pays_charge (cost_of v)) (pays_pure (items_of v)))
+
+-- a loop over the elements of a sequence
+pays_for : (n : ℕ) (m : M Value) (body : M Flow) → Pays m → Pays body → Pays (for_of n m body)
+unfolding for_of
+pays_for n m body k b = pays_bind _ (pays_elements m k) (λ vs. pays_each n vs body b)
+
+-- ---- single statements
+
+-- a run whose value is dropped
+pays_done : (m : M Value) → Pays m → Pays (done m)
+pays_done m k = pays_seq k (pays_pure Next)
+
+-- a local with another value
+pays_set : (n : ℕ) (v : Value) → Pays (set n v)
+pays_set n v = pays_seq (pays_change (set_local n v)) (pays_pure Next)
+
+-- a place with another value
+pays_assign : (place : TypedPlace) (moves : List (M Move)) (m : M Value) → AllPay moves → Pays m → Pays (assign place moves m)
+unfolding assign
+pays_assign place moves m h k = pays_bind _ (pays_all moves h) (λ to. pays_bind _ k (λ v. pays_seq (pays_change (store place.variable to v)) (pays_pure Next)))
+
+-- one step more at the front
+first_pays : (m : Option (M Move)) (ms : List (M Move)) → MovePays m → AllPay ms → AllPay (move_of m ∷ ms)
+first_pays None ms h k = (pays_given (Err fault.IndexOutOfRange), k)
+first_pays (Some m) ms h k = (h, k)
+
+-- the steps of a place
+moves_pay : (rs : List Reach) → AllByRecursion StepPays rs → AllPay (moves_in rs)
+moves_pay [] h = tt
+moves_pay (r ∷ rs) h = first_pays r.move (moves_in rs) h.0.moves (moves_pay rs h.1)
+
+module _ (types : List EventShape) (sites : List Site) (call : Calls) (calls_pay : CallsPay call) where
+  -- the value of an expression
+  value_pays : (e : TypedExpr) → Pays (value_of types call e)
+  value_pays e = (expr_pays types call calls_pay e).told
+
+  -- a listener of a site that may be there
+  listen_pays : (n : ℕ) (o : Option Site) → Pays (listen_at types sites call n o)
+  listen_pays n None = pays_pure _
+  listen_pays n (Some site) = pays_bind _ (values_paid types call calls_pay site.operands) (λ operands. pays_bind _ (pays_look _) (λ captured. pays_listen n site.term operands captured))
+
+  -- a listener of a site by its number
+  listener_pays : (n : ℕ) → Pays (listener_of types sites call n)
+  unfolding listener_of
+  listener_pays n = listen_pays n (slice_get sites n)
+
+  -- steps behind a value
+  steps_pay : (us : List TypedSuffix) → AllByRecursion StepPays (map (reach_of types call) us)
+  steps_pay [] = tt
+  steps_pay (u ∷ us) = (step_pays types call calls_pay u, steps_pay us)
+
+  -- the steps of a place that is assigned
+  place_pays : (place : TypedPlace) → AllPay (place_moves types sites call place)
+  place_pays place = moves_pay (map (reach_of types call) place.steps) (steps_pay place.steps)
+
+  -- what is returned
+  returned_pays : (e : Option TypedExpr) → Pays (returned types sites call e)
+  returned_pays None = pays_pure _
+  returned_pays (Some e) = pays_bind _ (value_pays e) (λ v. pays_pure _)
+
+  -- an instance that is spawned
+  spawned_pays : (n : ℕ) (es : List TypedExpr) (to : Option TypedExpr) → Pays (spawned types sites call n es to)
+  spawned_pays n es None = pays_bind _ (values_paid types call calls_pay es) (λ arguments. pays_globals _ (pays_spawn_here n arguments))
+  spawned_pays n es (Some to) = pays_bind _ (values_paid types call calls_pay es) (λ arguments. pays_bind _ (value_pays to) (λ v. pays_spawn_to n arguments v))
+
+  -- what a statement means
+  abbrev meant : Stmt → M Flow
+  meant = stmt_of types sites call
+
+  -- what is claimed of a statement
+  abbrev ForStmt : Stmt → Type 0
+  ForStmt s = Pays (meant s)
+
+  -- a statement with what is claimed of it
+  abbrev Held : Type 0
+  Held = (s : Stmt) × ForStmt s
+
+  -- statements of which it is claimed
+  parts_pay : (parts : List Held) → AllPay (map meant (map (λ e. e.0) parts))
+  parts_pay [] = tt
+  parts_pay (s ∷ parts) = (s.1, parts_pay parts)
+
+  -- a row of them
+  row_pays : (parts : List Held) → Pays (row (map meant (map (λ e. e.0) parts)))
+  row_pays parts = pays_row _ (parts_pay parts)
+
+  -- a statement behind its charge
+  begun_pays : (m : M Flow) → Pays m → Pays (begun types sites call m)
+  begun_pays m k = pays_seq (pays_charge 1) k
+
+  -- the statements in a statement
+  abbrev trees : Stmt-F Held → Stmt-F Stmt
+  trees y = map-Stmt Held Stmt (λ e. e.0) y
+
+  -- what they mean
+  abbrev meant_parts : Stmt-F Stmt → Stmt-F (M Flow)
+  meant_parts x = map-Stmt Stmt (M Flow) meant x
+
+  -- a statement whose parts pay
+  stmt_at : (y : Stmt-F Held) → Pays (stmt_meant types sites call (meant_parts (trees y)))
+  stmt_at (stmt.Block parts) = row_pays parts
+  stmt_at (stmt.On site) = begun_pays _ (pays_done _ (listener_pays site))
+  stmt_at (stmt.Declare n s) = begun_pays _ (pays_set n _)
+  stmt_at (stmt.DeclareAs n e) = begun_pays _ (pays_bind _ (value_pays e) (λ v. pays_set n v))
+  stmt_at (stmt.DeclareOn n site) = begun_pays _ (pays_bind _ (listener_pays site) (λ v. pays_set n v))
+  stmt_at (stmt.Assign place e) = begun_pays _ (pays_assign place _ _ (place_pays place) (value_pays e))
+  stmt_at (stmt.AssignOn place site) = begun_pays _ (pays_assign place _ _ (place_pays place) (listener_pays site))
+  stmt_at (stmt.If test part None) = begun_pays _ (pays_bind _ (value_pays test) (λ v. pays_choose (truth_of v) part.1 (pays_pure Next)))
+  stmt_at (stmt.If test part (Some other)) = begun_pays _ (pays_bind _ (value_pays test) (λ v. pays_choose (truth_of v) part.1 other.1))
+  stmt_at (stmt.While test parts) = begun_pays _ (pays_while _ _ (value_pays test) (row_pays parts))
+  stmt_at (stmt.For n items parts) = begun_pays _ (pays_for n _ _ (value_pays items) (row_pays parts))
+  stmt_at stmt.Break = begun_pays _ (pays_pure Broke)
+  stmt_at stmt.Continue = begun_pays _ (pays_pure Continued)
+  stmt_at (stmt.Return e) = begun_pays _ (returned_pays e)
+  stmt_at stmt.Die = begun_pays _ (pays_halt Died)
+  stmt_at (stmt.Print text) = begun_pays _ (pays_done _ (pays_bind _ (value_pays text) (λ v. pays_print v)))
+  stmt_at (stmt.Log text level) = begun_pays _ (pays_done _ (pays_bind _ (value_pays text) (λ v. pays_log (level_number level) v)))
+  stmt_at (stmt.Route e) = begun_pays _ (pays_done _ (pays_bind _ (value_pays e) (λ v. pays_route v)))
+  stmt_at (stmt.Send e to) = begun_pays _ (pays_done _ (pays_bind _ (value_pays e) (λ event. pays_bind _ (value_pays to) (λ v. pays_send event v))))
+  stmt_at (stmt.Spawn n es to) = begun_pays _ (pays_done _ (spawned_pays n es to))
+  stmt_at (stmt.Subscribe channel) = begun_pays _ (pays_done _ (pays_bind _ (value_pays channel) (λ v. pays_subscribe v)))
+  stmt_at (stmt.Unsubscribe channel) = begun_pays _ (pays_done _ (pays_bind _ (value_pays channel) (λ v. pays_unsubscribe v)))
+  stmt_at (stmt.Call e) = begun_pays _ (pays_done _ (expr_pays types call calls_pay e).runs)
+
+  -- the step of the induction
+  stmt_case : (x : Stmt-F Stmt) (y : Stmt-F Held) → trees y ≡ x → ForStmt (roll-Stmt x)
+  unfolding stmt_of
+  stmt_case x y is = subst (λ (z : Stmt-F Stmt). ForStmt (roll-Stmt z)) is (subst (λ (m : M Flow). Pays m) (sym (fold-roll-Stmt (M Flow) (stmt_meant types sites call) (trees y))) (stmt_at y))
+
+  -- each statement pays
+  pub stmt_pays : (s : Stmt) → Pays (meant s)
+  stmt_pays = ind-Stmt ForStmt stmt_case
+
+  -- the statements of a body
+  stmts_pay : (body : List Stmt) → AllPay (map meant body)
+  stmts_pay [] = tt
+  stmts_pay (s ∷ body) = (stmt_pays s, stmts_pay body)
+
+  -- and each body
+  pub body_pays : (body : List Stmt) → Pays (body_of types sites call body)
+  body_pays body = pays_row _ (stmts_pay body)

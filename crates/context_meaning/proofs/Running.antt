@@ -1,0 +1,166 @@
+-- What a run comes to keeps a context's fit.
+use Rattle.std.proofs.Common.{◌≡◌, ℕ, ◌+◌, ◌<◌, ◌≤◌, List, [], ◌∷◌, ◌++◌, filter, slice_get, Bool, true, false, if◌then◌else◌, Option, Some, None, All, refl, sym, ap, subst, ◌∙◌, arith}
+use Rattle.std.proofs.lemmas.Option.{same_Some}
+use Rattle.std.proofs.lemmas.List.Elements.{All-head, All-tail, All-filter, All-push, All-weaker}
+use Rattle.epl_values.specs.declared.value.Value.{Value, out-Value}
+use Rattle.typed_program.specs.declared.program.Program.{Program}
+use Rattle.typed_program.specs.declared.program.Site.{Site}
+use Rattle.typed_program.specs.Typed.{Typed}
+use Rattle.action_host.specs.declared.host.Effect.{Effect}
+use Rattle.action_host.specs.declared.host.Effect.TheVariants as effect
+use Rattle.action_host.specs.Scenes.{Scene}
+use Rattle.body_meaning.specs.Runs.{Outcome, Went, Ended}
+use Rattle.body_meaning.specs.Acts.{Act, act, act_of, come_to}
+use Rattle.value_shapes.specs.Fits.{AllFit, IsEvent}
+use Rattle.typed_runs.specs.Bodies.{Head, head_of, GlobalsFit}
+use Rattle.typed_runs.specs.Kept.{RunFits, EffectFits, ListenFits}
+use Rattle.context_meaning.specs.declared.cargo.Line.{Line}
+use Rattle.context_meaning.specs.declared.context.Instance.{Instance}
+use Rattle.context_meaning.specs.declared.context.Listener.{Listener}
+use Rattle.context_meaning.specs.declared.context.Context.{Context}
+use Rattle.context_meaning.specs.Contexts.{instance_of, is_instance, scene_of, spend, put_globals, with_globals, with_line, with_listener, apply, apply_all}
+use Rattle.context_meaning.specs.Ends.{taken, act_in}
+use Rattle.context_meaning.specs.Fits.{InstanceFits, ListenerFits, ContextFits, MayRun}
+use Rattle.context_meaning.proofs.Finding.{find_all, find_put, all_put, number_is}
+use Rattle.context_meaning.proofs.Births.{ascend_push, ascend_filter}
+
+-- the law of runs: a run of a body of a typed program leaves globals of their shapes, and its effects carry what they are to carry
+abbrev pub RunsKeepShapes : Type 0
+RunsKeepShapes = (program : Program) → Typed program → (body : ℕ) (head : Head) → head_of program body ≡ Some head → (globals locals : List Value) → GlobalsFit program head.monitor globals → AllFit program.types locals head.params → (scene : Scene) (draws : List ℕ) → RunFits program head.monitor (act program body locals (record { scene = scene; draws = draws; frame = record { globals = globals; locals = [] } }))
+
+-- what an act left and did is of this monitor
+abbrev pub ActFits : Program → ℕ → Act → Type 0
+ActFits program monitor act = GlobalsFit program monitor act.globals × All (EffectFits program monitor) act.effects
+
+-- what an outcome comes to
+come_fits : (program : Program) (monitor : ℕ) (o : Outcome (Option Value)) → RunFits program monitor o → ActFits program monitor (come_to o)
+come_fits program monitor (Went did v s) h = (h.1, h.0.effects)
+come_fits program monitor (Ended did why s) h = (h.1, h.0.effects)
+
+-- a context that fits, where the instance with this number was begun and is one of this monitor
+pub record RunsIn (program : Program) (at of : ℕ) (c : Context) : Type 0 where
+  pub fits : ContextFits program c
+  pub begun : at ≤ c.begun
+  pub same : (i : Instance) → instance_of at c ≡ Some i → i.monitor ≡ of
+
+module _ (program : Program) where
+  -- ---- small changes
+
+  -- other fuel, lines or end
+  pub fuel_fits : (c : Context) (fuel : ℕ) → ContextFits program c → ContextFits program (record c { fuel = fuel })
+  fuel_fits c fuel f = record { instances = f.instances; listeners = f.listeners; births = f.births; born = f.born; row = f.row; front = f.front }
+
+  -- a context that is spent
+  pub spend_fits : (c : Context) → ContextFits program c → ContextFits program (spend c)
+  spend_fits c f = record { instances = f.instances; listeners = f.listeners; births = f.births; born = f.born; row = f.row; front = f.front }
+
+  -- one line more
+  pub line_fits : (l : Line) (c : Context) → ContextFits program c → ContextFits program (with_line l c)
+  line_fits l c f = record { instances = f.instances; listeners = f.listeners; births = f.births; born = f.born; row = f.row; front = f.front }
+
+  -- fewer listeners
+  pub filter_fits : (p : Listener → Bool) (c : Context) → ContextFits program c → ContextFits program (record c { listeners = filter p c.listeners })
+  filter_fits p c f = record { instances = f.instances; listeners = All-filter p (ListenerFits program c.begun c.instances) c.listeners f.listeners; births = ascend_filter p c.listeners f.births; born = All-filter p (λ (l : Listener). l.birth ≤ c.births) c.listeners f.born; row = f.row; front = f.front }
+
+  -- one more event in the row
+  pub row_fits : (e : Value) (c : Context) → IsEvent program.types e (out-Value e) → ContextFits program c → ContextFits program (record c { row = c.row ++ e ∷ [] })
+  row_fits e c h f = record { instances = f.instances; listeners = f.listeners; births = f.births; born = f.born; row = All-push (λ (v : Value). IsEvent program.types v (out-Value v)) c.row e f.row h; front = f.front }
+
+  -- one more listener, in the instance with this number
+  pub listener_fits : (at site : ℕ) (captured : List Value) (c : Context) → ListenerFits program c.begun c.instances (record { birth = c.births + 1; instance = at; site = site; captured = captured }) → ContextFits program c → ContextFits program (with_listener at site captured c)
+  listener_fits at site captured c h f = record {
+    instances = f.instances;
+    listeners = All-push (ListenerFits program c.begun c.instances) c.listeners _ f.listeners h;
+    births = ascend_push c.listeners _ f.births (All-weaker (λ (l : Listener). l.birth ≤ c.births) (λ (l : Listener). l.birth < c.births + 1) (λ l k. omega arith) c.listeners f.born);
+    born = All-push (λ (l : Listener). l.birth ≤ c.births + 1) c.listeners _ (All-weaker (λ (l : Listener). l.birth ≤ c.births) (λ (l : Listener). l.birth ≤ c.births + 1) (λ l k. omega arith) c.listeners f.born) (omega arith);
+    row = f.row;
+    front = f.front;
+  }
+
+  -- ---- effects
+
+  -- a listener that a body makes
+  listens : (at of site birth : ℕ) (operands captured : List Value) (c : Context) → RunsIn program at of c → (o : Option Site) → slice_get program.sites site ≡ o → ListenFits program of operands captured o → ListenerFits program c.begun c.instances (record { birth = birth; instance = at; site = site; captured = captured })
+  listens at of site birth operands captured c r None is h = absurd h
+  listens at of site birth operands captured c r (Some s) is h = record { instance = r.begun; site = s; there = is; captured = h.2; monitor = λ i found. r.same i found ∙ sym h.0 }
+
+  -- it is made unless `ondie` runs
+  listening_runs : (at of site : ℕ) (operands captured : List Value) (ending : Bool) (c : Context) → ListenFits program of operands captured (slice_get program.sites site) → RunsIn program at of c → RunsIn program at of (if ending then c else with_listener at site captured c)
+  listening_runs at of site operands captured true c h r = r
+  listening_runs at of site operands captured false c h r = record { fits = listener_fits at site captured c (listens at of site (c.births + 1) operands captured c r (slice_get program.sites site) refl h) r.fits; begun = r.begun; same = r.same }
+
+  -- an effect of a body of the instance's monitor
+  pub apply_runs : (at of : ℕ) (ending : Bool) (e : Effect) (c : Context) → EffectFits program of e → RunsIn program at of c → RunsIn program at of (apply at ending e c)
+  apply_runs at of ending (effect.Print text) c h r = record { fits = line_fits _ c r.fits; begun = r.begun; same = r.same }
+  apply_runs at of ending (effect.Log level text) c h r = record { fits = line_fits _ c r.fits; begun = r.begun; same = r.same }
+  apply_runs at of ending (effect.Listen site operands captured) c h r = listening_runs at of site operands captured ending c h r
+  apply_runs at of ending (effect.Quit birth) c h r = record { fits = filter_fits _ c r.fits; begun = r.begun; same = r.same }
+  apply_runs at of ending (effect.Route event) c h r = record { fits = row_fits event c h r.fits; begun = r.begun; same = r.same }
+  apply_runs at of ending other c h r = r
+
+  -- all of them
+  pub apply_all_runs : (at of : ℕ) (ending : Bool) (es : List Effect) (c : Context) → All (EffectFits program of) es → RunsIn program at of c → RunsIn program at of (apply_all at ending es c)
+  apply_all_runs at of ending [] c h r = r
+  apply_all_runs at of ending (e ∷ es) c h r = apply_all_runs at of ending es (apply at ending e c) (All-tail (EffectFits program of) e es h) (apply_runs at of ending e c (All-head (EffectFits program of) e es h) r)
+
+  -- ---- globals
+
+  -- the instance with other globals of its monitor
+  globals_fit : (at of : ℕ) (globals : List Value) (c : Context) → GlobalsFit program of globals → RunsIn program at of c → ContextFits program (with_globals at globals c)
+  globals_fit at of globals c g r = record {
+    instances = all_put (InstanceFits program c.begun) at globals c.instances r.fits.instances (λ i found. let old = find_all (InstanceFits program c.begun) (is_instance at) c.instances i r.fits.instances found in record { number = old.number; monitor = old.monitor; globals = subst (λ m. GlobalsFit program m globals) (sym (r.same i found)) g });
+    listeners = All-weaker (ListenerFits program c.begun c.instances) (ListenerFits program c.begun (put_globals at globals c.instances)) (λ l h. record { instance = h.instance; site = h.site; there = h.there; captured = h.captured; monitor = λ i found. let old = find_put at l.instance globals c.instances i found in sym old.2 ∙ h.monitor old.0 old.1 }) c.listeners r.fits.listeners;
+    births = r.fits.births;
+    born = r.fits.born;
+    row = r.fits.row;
+    front = r.fits.front;
+  }
+
+  -- the instance gets globals of its monitor
+  pub globals_run : (at of : ℕ) (globals : List Value) (c : Context) → GlobalsFit program of globals → RunsIn program at of c → RunsIn program at of (with_globals at globals c)
+  globals_run at of globals c g r = record { fits = globals_fit at of globals c g r; begun = r.begun; same = λ i found. let old = find_put at at globals c.instances i found in sym old.2 ∙ r.same old.0 old.1 }
+
+  -- other fuel
+  pub fuel_runs : (at of fuel : ℕ) (c : Context) → RunsIn program at of c → RunsIn program at of (record c { fuel = fuel })
+  fuel_runs at of fuel c r = record { fits = fuel_fits c fuel r.fits; begun = r.begun; same = r.same }
+
+  -- what a run came to
+  pub taken_runs : (at of : ℕ) (ending : Bool) (act : Act) (c : Context) → ActFits program of act → RunsIn program at of c → RunsIn program at of (taken at ending act c)
+  taken_runs at of ending act c h r = apply_all_runs at of ending act.effects (with_globals at act.globals (record c { fuel = act.scene.fuel })) h.1 (globals_run at of act.globals (record c { fuel = act.scene.fuel }) h.0 (fuel_runs at of act.scene.fuel c r))
+
+  -- an instance that is found
+  pub found_fits : (n : ℕ) (c : Context) (i : Instance) → ContextFits program c → instance_of n c ≡ Some i → InstanceFits program c.begun i
+  found_fits n c i f found = find_all (InstanceFits program c.begun) (is_instance n) c.instances i f.instances found
+
+module _ (program : Program) (typed : Typed program) (law : RunsKeepShapes) where
+  -- what a body comes to
+  pub act_fits : (body : ℕ) (head : Head) → head_of program body ≡ Some head → (globals locals : List Value) → GlobalsFit program head.monitor globals → AllFit program.types locals head.params → (scene : Scene) (draws : List ℕ) → ActFits program head.monitor (act_of program body globals locals scene draws)
+  act_fits body head is globals locals g l scene draws = come_fits program head.monitor _ (law program typed body head is globals locals g l scene draws)
+
+  -- an effect of a body of the instance's monitor keeps the fit
+  pub apply_fits : (at of : ℕ) (ending : Bool) (e : Effect) (c : Context) → EffectFits program of e → RunsIn program at of c → ContextFits program (apply at ending e c)
+  apply_fits at of ending e c h r = (apply_runs program at of ending e c h r).fits
+
+  -- all of them
+  pub apply_all_fits : (at of : ℕ) (ending : Bool) (es : List Effect) (c : Context) → All (EffectFits program of) es → RunsIn program at of c → ContextFits program (apply_all at ending es c)
+  apply_all_fits at of ending es c h r = (apply_all_runs program at of ending es c h r).fits
+
+  -- what a run came to
+  pub taken_fits : (at of : ℕ) (ending : Bool) (act : Act) (c : Context) → ActFits program of act → RunsIn program at of c → ContextFits program (taken at ending act c)
+  taken_fits at of ending act c h r = (taken_runs program at of ending act c h r).fits
+
+  -- what a body that may run in an instance comes to there
+  pub act_in_fits : (ending : Bool) (body : ℕ) (locals : List Value) (number : ℕ) (i : Instance) (c : Context) → ContextFits program c → instance_of number c ≡ Some i → MayRun program body locals i → ActFits program i.monitor (act_in program ending body locals i c)
+  act_in_fits ending body locals number i c f found may = subst (λ m. ActFits program m (act_in program ending body locals i c)) may.same (act_fits body may.head may.is i.globals locals (subst (λ m. GlobalsFit program m i.globals) (sym may.same) (found_fits program number c i f found).globals) may.locals_fit (scene_of ending c) [])
+
+  -- the instance with this number, where one is found
+  pub found_runs : (number : ℕ) (i : Instance) (c : Context) → ContextFits program c → instance_of number c ≡ Some i → RunsIn program i.number i.monitor c
+  found_runs number i c f found = record { fits = f; begun = (found_fits program number c i f found).number; same = λ j other. ap (λ (o : Instance). o.monitor) (same_Some j i (sym other ∙ ap (λ n. instance_of n c) (number_is number c.instances i found) ∙ found)) }
+
+  -- a run of a body in an instance, and what is known of the instance behind it
+  pub run_runs : (ending : Bool) (body : ℕ) (locals : List Value) (number : ℕ) (i : Instance) (c : Context) → ContextFits program c → instance_of number c ≡ Some i → MayRun program body locals i → RunsIn program i.number i.monitor (taken i.number ending (act_in program ending body locals i c) c)
+  run_runs ending body locals number i c f found may = taken_runs program i.number i.monitor ending (act_in program ending body locals i c) c (act_in_fits ending body locals number i c f found may) (found_runs number i c f found)
+
+  -- a run of a body in an instance
+  pub run_fits : (ending : Bool) (body : ℕ) (locals : List Value) (number : ℕ) (i : Instance) (c : Context) → ContextFits program c → instance_of number c ≡ Some i → MayRun program body locals i → ContextFits program (taken i.number ending (act_in program ending body locals i c) c)
+  run_fits ending body locals number i c f found may = (run_runs ending body locals number i c f found may).fits

@@ -1,0 +1,4 @@
+pub mod Contexts
+pub mod Ends
+pub mod Turns
+pub mod Fits
