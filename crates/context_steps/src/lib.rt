@@ -1,0 +1,9 @@
+//! Contexts handle entries as naive evaluation says.
+#![tactic(auto)]
+
+mod effects;
+mod ends;
+mod handling;
+mod turns;
+
+pub use handling::handle;
