@@ -1,17 +1,17 @@
 -- Cells, and what they answer.
-use Rattle.std.specs.Prelude.{List, [], Bool, true, false}
+use Rattle.std.specs.Prelude.{ℕ, List, [], Bool, true, false}
 use Rattle.actor_theory.specs.declared.entry.Entry.{Entry}
 use Rattle.actor_theory.specs.Machine.{Cell}
-use Rattle.naive_meaning.specs.declared.context.Context.{Context}
-use Rattle.naive_meaning.specs.declared.entry.Cargo.{Cargo}
+use Rattle.context_meaning.specs.declared.context.Context.{Context}
+use Rattle.context_meaning.specs.declared.cargo.Cargo.{Cargo}
 use Rattle.naive_meaning.specs.declared.record.ContextRecord.{ContextRecord}
-use Rattle.naive_meaning.specs.Contexts.{fresh}
+use Rattle.context_meaning.specs.Contexts.{fresh}
 use Rattle.context_core.specs.declared.cell.Handling.{Handling}
 use Rattle.context_core.specs.declared.cell.Handling.TheVariants.{Quiet, Spent}
 
--- a context that has handled nothing
-abbrev pub fresh_cell : Cell Context Cargo
-fresh_cell = record { state = fresh; number = 0; log = [] }
+-- the context of a slot, that has handled nothing
+abbrev pub fresh_cell : ℕ → ℕ → ℕ → Cell Context Cargo
+fresh_cell slot slots fuel = record { state = fresh slot slots fuel; number = 0; log = [] }
 
 abbrev pub is_spent : Handling → Bool
 is_spent Quiet = false

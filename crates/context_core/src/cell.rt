@@ -1,17 +1,17 @@
-ghost use Rattle.std.specs.Prelude.{◌≡◌, false, IfOk, OnOk};
+ghost use Rattle.std.specs.Prelude.{◌≡◌, ℕ, ◌<◌, ◌-◌, ◌^◌, false, IfOk, OnOk};
 ghost use Rattle.actor_theory.specs.Machine.{cell_after};
+ghost use Rattle.typed_program.specs.Typed.{Typed};
+ghost use Rattle.context_meaning.specs.Fits.{CargoFits, ContextFits};
 ghost use Rattle.naive_meaning.specs.Actors.{contexts_of};
-ghost use Rattle.naive_meaning.specs.Contexts.{fresh};
 ghost use Rattle.context_core.specs.Cells.{fresh_cell, record_of, is_spent};
 
-use crate::turn::handle;
+use context_meaning::{Context, Instances, Lines, Listeners};
+use context_steps::handle;
 use epl_values::{List, Memory};
-use naive_meaning::{
-    Context, ContextRecord, Entries, Entry, Handled, HandledList, Instances, Lines, Listeners,
-    Program,
-};
+use naive_meaning::{ContextRecord, Entries, Entry, Handled, HandledList, Program, Settings};
 use std::alloc::Global;
 use std::marker::Model;
+use typed_runs::runs_keep_shapes;
 
 /// A running context: what it is, the number of its last handling, and its log.
 #[derive(Drop)]
@@ -27,8 +27,8 @@ pub type Cells = List<Cell>;
 
 impl Model for Cell {
     ghost use Rattle.actor_theory.specs.Machine.{Cell as CellOf};
-    ghost use Rattle.naive_meaning.specs.declared.context.Context.{Context};
-    ghost use Rattle.naive_meaning.specs.declared.entry.Cargo.{Cargo};
+    ghost use Rattle.context_meaning.specs.declared.context.Context.{Context};
+    ghost use Rattle.context_meaning.specs.declared.cargo.Cargo.{Cargo};
     ghost use Rattle.epl_values.specs.contracts.value.Value as value;
     ghost use Rattle.std.specs.Coded.{codes};
 
@@ -49,15 +49,20 @@ pub enum Handling {
 }
 
 impl Cell {
-    /// A context that has handled nothing.
-    pub fn new(alloc: Global) -> Cell
-        ensures { result ≡ fresh_cell }
+    /// The context of a slot, that has handled nothing and has all the fuel that is set.
+    pub fn new(alloc: Global, slot: u8, settings: Settings) -> Cell
+        ensures { result ≡ fresh_cell slot settings.contexts settings.fuel }
     {
         let context = Context {
+            slot,
+            slots: settings.contexts,
+            fuel: settings.fuel,
             births: 0,
             begun: 0,
             instances: Instances::new(alloc),
             listeners: Listeners::new(alloc),
+            row: List::new(alloc),
+            front: List::new(alloc),
             lines: Lines::new(alloc),
             spent: false,
         };
@@ -72,15 +77,21 @@ impl Cell {
     /// Handles an entry: its state, its number and its log are then those of naive evaluation with this entry behind
     /// the others. After want of memory nothing is said of it.
     pub fn handle(&mut self, program: &Program, entry: Entry) -> Result<Handling, Memory>
-        requires { self.old.state.spent ≡ false }
-        ensures after { OnOk result (self.new ≡ cell_after (contexts_of program.now) self.old entry) }
+        requires live { self.old.state.spent ≡ false }
+        requires typed { Typed program.now }
+        requires fits { ContextFits program.now self.old.state }
+        requires cargo { CargoFits program.now entry.cargo }
+        requires fuel { self.old.state.fuel < 2 ^ 64 - 1 }
+        ensures after { OnOk result ((slots fuel : ℕ) → self.new ≡ cell_after (contexts_of program.now slots fuel) self.old entry) }
+        ensures fits { OnOk result (ContextFits program.now self.new.state) }
         ensures answer { IfOk result (λ answer. is_spent answer ≡ self.new.state.spent) }
     {
+        runs_keep_shapes();
         // A stamp is below 2^63 in every run, so there is a next number.
         let Some(number) = self.number.max(entry.stamp).checked_add(1) else {
             return Err(Memory);
         };
-        handle(self.alloc, &mut self.context, program, number, &entry.cargo)?;
+        handle(self.alloc, program, &mut self.context, number, &entry.cargo)?;
         self.number = number;
         self.log.push(Handled { entry, number })?;
         if self.context.spent {

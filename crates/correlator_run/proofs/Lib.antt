@@ -1,2 +1,4 @@
 pub mod Loading
 pub mod Completing
+pub mod Texts
+pub mod Wording

@@ -1,15 +1,17 @@
-ghost use Rattle.std.specs.Prelude.{◌≡◌, ◌≤◌, length, map, string_bytes, false, IfErr, IfOk, IfSome};
+ghost use Rattle.std.specs.Prelude.{◌≡◌, ◌<◌, ◌≤◌, length, map, slice_get, string_bytes, false, Some, IfErr, IfOk, IfSome};
+ghost use Rattle.std.specs.List.{AllByRecursion};
 ghost use Rattle.outside.specs.Told.{files_of};
-ghost use Rattle.program_reader.specs.Programs.{IsProgram};
+ghost use Rattle.typed_program.specs.Typed.{Typed};
+ghost use Rattle.naive_meaning.specs.Fits.{ItemsFit};
 ghost use Rattle.evt_text.specs.Forms.{AreEventTypes};
-ghost use Rattle.run_face.specs.Words.{default_settings};
-ghost use Rattle.correlator_run.specs.Causes.{is_words, Loads, NamesLast, RefusalCounts, WordsTold};
-ghost use Rattle.correlator_run.specs.Steps.{FileTold, ItemsTold, ProgramTold, WordsRead, refused};
+ghost use Rattle.run_face.specs.Words.{settings_of};
+ghost use Rattle.correlator_run.specs.Causes.{file_of, is_words, Loads, NamesLast, RefusalCounts, WordsTold};
+ghost use Rattle.correlator_run.specs.Steps.{FileTold, ItemsTold, ProgramTold, TextsTold, WordsRead, named_of, refused};
 
 use crate::Refusal;
-use epl_values::{Bytes, Memory, Text};
+use epl_values::{Bytes, List, Memory, Text, Texts};
 use evt_reader::{LineFault, items};
-use naive_meaning::{Items, Settings};
+use naive_meaning::Items;
 use outside::{FileFault, Shelf, read_whole};
 use program_reader::{ProgramFault, program_from};
 use run_face::{RunWords, WordsFault, read_words};
@@ -25,13 +27,17 @@ const MOST_PROGRAM: usize = 131_072;
 /// What a run is made from.
 #[derive(Drop)]
 pub struct Input {
+    pub named: RunWords,
     pub program: Program,
     pub items: Items,
-    pub settings: Settings,
 }
 
+#[tactic(auto, using(crate::proofs::Wording::words_read))]
 fn words_of(alloc: Global, words: &[String]) -> Result<RunWords, Refusal>
-    ensures { WordsRead (map string_bytes words.now) result }
+    ensures read { WordsRead (map string_bytes words.now) result }
+    ensures few { IfOk result (λ w. length w.programs ≤ 64) }
+    ensures fuel { IfOk result (λ w. w.settings.fuel ≤ 20000000) }
+    ensures contexts { IfOk result (λ w. w.settings.contexts ≡ 32) }
 {
     match read_words(alloc, words) {
         Ok(named) => Ok(named),
@@ -64,6 +70,52 @@ fn file<H: Shelf>(alloc: Global, shelf: &mut H, name: &Text, most: usize) -> Res
     }
 }
 
+/// The bytes of the program files, in order.
+fn texts_of<H: Shelf>(alloc: Global, shelf: &mut H, names: &Texts) -> Result<List<Bytes>, Refusal>
+    ensures told { IfSome (files_of (H.told shelf.old)) (λ files. TextsTold files names.now result) }
+    ensures short { IfOk result (AllByRecursion (λ text. length text < 4294967295)) }
+    ensures count { IfOk result (λ texts. length texts ≤ length names.now) }
+    ensures never_words { IfErr result (λ why. is_words why ≡ false) }
+    ensures files { files_of (H.told shelf.new) ≡ files_of (H.told shelf.old) }
+    ensures counts { RefusalCounts result (record {
+      faults_before = H.faults shelf.old;
+      faults_now = H.faults shelf.new;
+      missed_before = H.missed shelf.old;
+      missed_now = H.missed shelf.new;
+    }) }
+    ensures begun { NamesLast result (H.told shelf.new) }
+{
+    let mut texts = List::new(alloc);
+    'names: for name in names.as_slice() {
+        let text = file(alloc, shelf, name, MOST_PROGRAM)?;
+        texts.push(text)?;
+    }
+    Ok(texts)
+}
+
+/// The number of the program file in which a fault is.
+fn file_of(why: ProgramFault) -> usize
+    ensures { result ≡ file_of why }
+{
+    match why {
+        ProgramFault::Lex(file, _) => file as usize,
+        ProgramFault::Syntax(file, _) => file as usize,
+        ProgramFault::Typing(_, file, _) => file as usize,
+        ProgramFault::Unbuilt(file, _) => file as usize,
+        ProgramFault::Memory => 0,
+    }
+}
+
+/// A copy of the name at a place.
+fn name_at(alloc: Global, names: &Texts, place: usize) -> Result<Text, Memory>
+    ensures { IfOk result (λ name. slice_get names.now place ≡ Some name) }
+{
+    match names.as_slice().get(place) {
+        Some(name) => Text::of(alloc, name.as_str()),
+        None => Err(Memory),
+    }
+}
+
 fn refused(name: Text, why: ProgramFault) -> Refusal
     ensures { result ≡ refused name why }
 {
@@ -74,23 +126,28 @@ fn refused(name: Text, why: ProgramFault) -> Refusal
 }
 
 #[tactic(auto, using(crate::proofs::Loading::told_refused))]
-fn program_of(alloc: Global, name: &Text, bytes: &[u8]) -> Result<Program, Refusal>
-    requires { length bytes.now ≤ 131072 }
-    ensures told { ProgramTold bytes.now name.now result }
+fn program_of(alloc: Global, names: &Texts, texts: &List<Bytes>) -> Result<Program, Refusal>
+    requires short { AllByRecursion (λ text. length text < 4294967295) texts.now }
+    requires few { length texts.now ≤ 64 }
+    ensures told { ProgramTold texts.now names.now result }
+    ensures typed { IfOk result Typed }
     ensures types { IfOk result (λ p. AreEventTypes p.types) }
     ensures monitors { IfOk result (λ p. length p.monitors ≤ 65535) }
 {
-    let own_name = Text::of(alloc, name.as_str())?;
-    match program_from(alloc, bytes) {
+    match program_from(alloc, texts) {
         Ok(program) => Ok(program),
-        Err(why) => Err(refused(own_name, why)),
+        Err(why) => {
+            let name = name_at(alloc, names, file_of(why))?;
+            Err(refused(name, why))
+        }
     }
 }
 
 fn items_of(alloc: Global, name: &Text, program: &Program, bytes: &[u8]) -> Result<Items, Refusal>
     requires types { AreEventTypes program.now.types }
     requires few { length bytes.now ≤ 8388608 }
-    ensures { ItemsTold program.now.types bytes.now name.now result }
+    ensures told { ItemsTold program.now.types bytes.now name.now result }
+    ensures fits { IfOk result (λ items. ItemsFit program.now items) }
 {
     let own_name = Text::of(alloc, name.as_str())?;
     match items(alloc, program, bytes) {
@@ -102,9 +159,13 @@ fn items_of(alloc: Global, name: &Text, program: &Program, bytes: &[u8]) -> Resu
 
 /// The program and the items that the words and the files give.
 pub fn load<H: Shelf>(alloc: Global, words: &[String], shelf: &mut H) -> Result<Input, Refusal>
-    ensures loads { IfSome (files_of (H.told shelf.old)) (λ files. Loads (λ x. (x.program, x.items)) files (map string_bytes words.now) result) }
+    ensures loads { IfSome (files_of (H.told shelf.old)) (λ files. Loads (λ x. (named_of x.named, (x.program, x.items))) files (map string_bytes words.now) result) }
+    ensures typed { IfOk result (λ x. Typed x.program) }
+    ensures fits { IfOk result (λ x. ItemsFit x.program x.items) }
     ensures monitors { IfOk result (λ x. length x.program.monitors ≤ 65535) }
-    ensures settings { IfOk result (λ x. x.settings ≡ default_settings) }
+    ensures settings { IfOk result (λ x. x.named.settings ≡ settings_of (named_of x.named)) }
+    ensures fuel { IfOk result (λ x. x.named.settings.fuel ≤ 20000000) }
+    ensures contexts { IfOk result (λ x. x.named.settings.contexts ≡ 32) }
     ensures words { WordsTold (map string_bytes words.now) result }
     ensures counts { RefusalCounts result (record {
       faults_before = H.faults shelf.old;
@@ -116,12 +177,12 @@ pub fn load<H: Shelf>(alloc: Global, words: &[String], shelf: &mut H) -> Result<
 {
     let named = words_of(alloc, words)?;
     let events = file(alloc, shelf, &named.events, MOST_EVENTS)?;
-    let text = file(alloc, shelf, &named.program, MOST_PROGRAM)?;
-    let program = program_of(alloc, &named.program, text.as_slice())?;
+    let texts = texts_of(alloc, shelf, &named.programs)?;
+    let program = program_of(alloc, &named.programs, &texts)?;
     let items = items_of(alloc, &named.events, &program, events.as_slice())?;
     Ok(Input {
+        named,
         program,
         items,
-        settings: named.settings,
     })
 }

@@ -36,15 +36,15 @@ fn tell_code<V: Sink>(err: &mut V, code: u8) {
     tell(err, &["type ", code, "\n"]);
 }
 
-/// Tells why a file has no program.
+/// Tells why the program files have no program; the fault is in the file of this name.
 fn tell_program<V: Sink>(err: &mut V, name: &Text, why: ProgramFault) {
     match why {
-        ProgramFault::Lex(spot) => {
+        ProgramFault::Lex(_, spot) => {
             if tell_place(err, name, spot.line) {
                 tell(err, &["lex\n"]);
             }
         }
-        ProgramFault::Syntax(spot) => {
+        ProgramFault::Syntax(_, spot) => {
             if tell_place(err, name, spot.line) {
                 tell(err, &["syntax\n"]);
             }
@@ -54,8 +54,8 @@ fn tell_program<V: Sink>(err: &mut V, name: &Text, why: ProgramFault) {
                 tell_code(err, code);
             }
         }
-        ProgramFault::Unbuilt => {
-            if tell_place(err, name, 1) {
+        ProgramFault::Unbuilt(_, spot) => {
+            if tell_place(err, name, spot.line) {
                 tell(err, &["unbuilt\n"]);
             }
         }

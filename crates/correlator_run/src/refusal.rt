@@ -13,7 +13,7 @@ pub enum Refusal {
     Read(Text),
     /// A file with more bytes than its limit.
     TooLong(Text),
-    /// A program file that has no program, and why.
+    /// The program file in which it is why there is no program.
     Program(Text, ProgramFault),
     /// An event file, and the first line of it that is refused, from 1.
     Events(Text, u32),

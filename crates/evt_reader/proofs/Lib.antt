@@ -1,4 +1,5 @@
 pub mod Cut
+pub mod Fitting
 pub mod Lined
 pub mod Meanings
 pub mod Names

@@ -1,4 +1,5 @@
-ghost use Rattle.std.specs.Prelude.{◌<◌, length};
+ghost use Rattle.std.specs.Prelude.{◌<◌, length, IfOk};
+ghost use Rattle.naive_meaning.specs.Fits.{ItemsFit};
 ghost use Rattle.evt_text.specs.Forms.{AreEventTypes};
 ghost use Rattle.evt_reader.specs.Files.{GivesItems};
 ghost use Rattle.evt_reader.specs.Steps.{TakesLine};
@@ -36,7 +37,8 @@ fn take_line(
 pub fn items(alloc: Global, program: &Program, bytes: &[u8]) -> Result<Items, LineFault>
     requires types { AreEventTypes program.now.types }
     requires size { length bytes.now < 4294967295 }
-    ensures { GivesItems program.now.types bytes.now result }
+    ensures gives { GivesItems program.now.types bytes.now result }
+    ensures fits { IfOk result (λ items. ItemsFit program.now items) }
 {
     let mut lines = Lines {
         rest: without_mark(bytes),

@@ -3,18 +3,18 @@ use Rattle.std.specs.Prelude.{ℕ, zero, suc, List, [], ◌∷◌, ◌++◌, len
 use Rattle.actor_theory.specs.Language.{Sent}
 use Rattle.actor_theory.specs.Joined.{Slots, Reader}
 use Rattle.typed_program.specs.declared.program.Program.{Program}
-use Rattle.naive_meaning.specs.declared.entry.Cargo.{Cargo}
-use Rattle.naive_meaning.specs.declared.entry.Cargo.TheVariants as cargo
+use Rattle.context_meaning.specs.declared.cargo.Cargo.{Cargo}
+use Rattle.context_meaning.specs.declared.cargo.Cargo.TheVariants as cargo
 use Rattle.naive_meaning.specs.declared.entry.Item.{Item}
 use Rattle.naive_meaning.specs.declared.entry.Item.TheVariants as item
-use Rattle.naive_meaning.specs.declared.context.Context.{Context}
-use Rattle.naive_meaning.specs.Contexts.{fresh}
-use Rattle.naive_meaning.specs.Turns.{handle}
+use Rattle.context_meaning.specs.declared.context.Context.{Context}
+use Rattle.context_meaning.specs.Contexts.{fresh}
+use Rattle.context_meaning.specs.Turns.{handle}
 
--- each context begins empty, handles an entry as its program says, and sends nothing
-abbrev pub contexts_of : Program → Slots Context Cargo
-contexts_of p = record {
-  start = λ slot. fresh;
+-- each context begins empty with full fuel, handles an entry as its program says, and sends nothing
+abbrev pub contexts_of : Program → ℕ → ℕ → Slots Context Cargo
+contexts_of p slots fuel = record {
+  start = λ slot. fresh slot slots fuel;
   handle = λ c number e. handle p c number e.cargo;
   sent = λ c number e. [];
   is_spent = λ c. c.spent;

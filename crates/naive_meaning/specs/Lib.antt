@@ -1,7 +1,4 @@
-pub mod Expressions
-pub mod Bodies
-pub mod Contexts
-pub mod Turns
 pub mod Actors
+pub mod Fits
 pub mod Records
 pub mod Report

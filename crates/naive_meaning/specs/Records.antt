@@ -2,13 +2,13 @@
 use Rattle.std.specs.Prelude.{◌≡◌, ℕ, List, map, Option}
 use Rattle.actor_theory.specs.Kept as kept
 use Rattle.typed_program.specs.declared.program.Program.{Program}
-use Rattle.naive_meaning.specs.declared.entry.Cargo.{Cargo}
+use Rattle.context_meaning.specs.declared.cargo.Cargo.{Cargo}
 use Rattle.naive_meaning.specs.declared.entry.Item.{Item}
-use Rattle.naive_meaning.specs.declared.entry.Line.{Line}
+use Rattle.context_meaning.specs.declared.cargo.Line.{Line}
 use Rattle.naive_meaning.specs.declared.record.Settings.{Settings}
 use Rattle.naive_meaning.specs.declared.record.ContextRecord.{ContextRecord}
 use Rattle.naive_meaning.specs.declared.record.Record.{Record}
-use Rattle.naive_meaning.specs.declared.context.Context.{Context}
+use Rattle.context_meaning.specs.declared.context.Context.{Context}
 use Rattle.naive_meaning.specs.Actors.{contexts_of, reader_of}
 
 -- what a record shows of a context besides its handlings: its lines
@@ -26,9 +26,9 @@ kept_of r = record { slots = map slot_kept r.contexts; steps = r.reader.steps; l
 -- cause, the items are all taken in order, boot comes first, and nothing is left but at spent contexts
 pub record IsFaithful (p : Program) (items : List Item) (settings : Settings) (r : Record) : Type 0 where
   pub same_settings : r.settings ≡ settings
-  pub faithful : kept.IsFaithful settings.contexts (contexts_of p) (reader_of p) shown items (kept_of r)
+  pub faithful : kept.IsFaithful settings.contexts (contexts_of p settings.contexts settings.fuel) (reader_of p) shown items (kept_of r)
 
 -- the record that boot, these picks, and rounds until one handles nothing make
 pub record IsScheduled (p : Program) (items : List Item) (settings : Settings) (picks : List (ℕ × Option ℕ)) (r : Record) : Type 0 where
   pub same_settings : r.settings ≡ settings
-  pub scheduled : kept.IsScheduled settings.contexts (contexts_of p) (reader_of p) shown items picks (kept_of r)
+  pub scheduled : kept.IsScheduled settings.contexts (contexts_of p settings.contexts settings.fuel) (reader_of p) shown items picks (kept_of r)

@@ -1,4 +1,5 @@
-use crate::{Cargo, Item, Lines};
+use crate::entry::Item;
+use context_meaning::{Cargo, Lines};
 use epl_values::List;
 
 /// What a context receives: the slot of its sender, or the number of contexts for the reader, the number of the

@@ -1,5 +1,7 @@
 pub mod Only
+pub mod Trees
 pub mod Telling
 pub mod Named
 pub mod Types
 pub mod Laws
+pub mod Places

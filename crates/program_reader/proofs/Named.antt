@@ -1,5 +1,5 @@
--- The names of event types in a tree are spelled as names.
-use Rattle.std.proofs.Common.{◌≡◌, ℕ, zero, suc, ◌+◌, ◌-◌, ◌<◌, ◌≤◌, List, [], ◌∷◌, ◌++◌, length, take, Bool, true, false, ◌||◌, ◌&&◌, ◌==◌, nat_le, le-leb, None, ◌⊎◌, inl, inr, refl, arith, eqb-true, IsTrue, get_or, slice_range, map, sym, subst}
+-- The names of event types in trees are spelled as names.
+use Rattle.std.proofs.Common.{◌≡◌, ℕ, zero, suc, ◌+◌, ◌-◌, ◌<◌, ◌≤◌, List, [], ◌∷◌, ◌++◌, length, take, Bool, true, false, ◌||◌, ◌&&◌, ◌==◌, nat_le, le-leb, ◌⊎◌, inl, inr, refl, arith, eqb-true, IsTrue, get_or, slice_range, map, sym, subst}
 use Rattle.std.specs.List.{AllByRecursion}
 use Rattle.std.proofs.lemmas.Bool.{false≢true}
 use Rattle.grammar_forms.specs.Rule.{contains, has}
@@ -8,7 +8,7 @@ use Rattle.epl_lexer.specs.declared.token.Kind.{Kind}
 use Rattle.epl_lexer.specs.declared.token.Kind.TheVariants.{Name, Integer, Decimal, Quoted, Keyword, Sign, End}
 use Rattle.epl_lexer.specs.declared.token.Token.{Token}
 use Rattle.epl_lexer.specs.Bytes.{from_on, digits, letters, word_bytes}
-use Rattle.epl_lexer.specs.Spelling.{keyword_number, Spells}
+use Rattle.epl_lexer.specs.Spelling.{Spells}
 use Rattle.epl_lexer.specs.Tokens.{start_of, Lexes, end_token, AreTokens}
 use Rattle.expr_parser.specs.Tokens.{kind_at}
 use Rattle.epl_tree.specs.declared.name.Name.{Name as TreeName}
@@ -19,6 +19,8 @@ use Rattle.epl_tree.specs.declared.unit.Unit.{Unit as Tree}
 use Rattle.grammar_forms.specs.Rule.{Many}
 use Rattle.decl_parser.specs.Statements.{IsName as IsNameForm}
 use Rattle.decl_parser.specs.Units.{IsEventDecl, IsDeclaration, IsUnit}
+use Rattle.type_table.specs.Kinds.{declarations_of}
+use Rattle.program_reader.specs.Programs.{AreTrees}
 
 -- what the tokens are
 abbrev kinds_of : List Token → List Kind
@@ -146,6 +148,17 @@ module _ (tokens : List Token) (all : AllByRecursion Named (kinds_of tokens)) wh
   declarations_named (d ∷ ds) at end h = (declaration_named d at h.0 h.1, declarations_named ds h.0 end h.2)
 
 -- each event type of a tree has a name
-pub unit_named : (text : List ℕ) (tokens : List Token) (unit : Tree) → AreTokens text tokens → IsUnit tokens unit → AllByRecursion IsNamed unit.declarations
+unit_named : (text : List ℕ) (tokens : List Token) (unit : Tree) → AreTokens text tokens → IsUnit tokens unit → AllByRecursion IsNamed unit.declarations
 unfolding IsUnit
 unit_named text tokens unit lexed parsed = declarations_named tokens (tokens-named text tokens lexed) unit.declarations 0 parsed.0 parsed.1
+
+all_behind : (xs ys : List Declaration) → AllByRecursion IsNamed xs → AllByRecursion IsNamed ys → AllByRecursion IsNamed (xs ++ ys)
+all_behind [] ys h k = k
+all_behind (x ∷ xs) ys h k = (h.0, all_behind xs ys h.1 k)
+
+-- each event type of the trees of files has a name
+pub units_named : (texts : List (List ℕ)) (trees : List Tree) → AreTrees texts trees → AllByRecursion IsNamed (declarations_of trees)
+units_named [] [] k = tt
+units_named [] (u ∷ us) k = absurd k
+units_named (b ∷ bs) [] k = absurd k
+units_named (b ∷ bs) (u ∷ us) k = all_behind u.declarations (declarations_of us) (unit_named b k.0.tokens u k.0.lexed k.0.parsed) (units_named bs us k.1)

@@ -1,5 +1,5 @@
 -- A program that is accepted is the only one of its files, and has no fault.
-use Rattle.std.proofs.Common.{◌≡◌, ℕ, List, [], map, refl, sym, ◌∙◌, ap, Some, None, Option, inl, inr}
+use Rattle.std.proofs.Common.{◌≡◌, ℕ, List, [], map, sym, ◌∙◌, ap, Some, None, Option, inl, inr}
 use Rattle.std.proofs.lemmas.Option.{none-some}
 use mathlib.Core.HLevel.{is_prop→PathP}
 use Rattle.std.specs.Coded.{codes}
@@ -10,7 +10,7 @@ use Rattle.type_table.specs.declared.table.Table.{Table}
 use Rattle.type_table.specs.Found.{first_of}
 use Rattle.type_table.specs.Gathers.{IsTable}
 use Rattle.typed_program.specs.declared.program.Program.{Program}
-use Rattle.stmt_check.specs.Programs.{IsProgram, IsFault, IsFirst, program_of, members_faults}
+use Rattle.stmt_check.specs.Programs.{IsProgram, IsFault, program_of, members_faults}
 
 names_same : (a b : Table) → a.types ≡ b.types → a.names ≡ b.names
 names_same a b types = a.named ∙ ap (λ ts. map (λ t. t.name) ts) types ∙ sym b.named

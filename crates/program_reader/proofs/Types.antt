@@ -1,105 +1,195 @@
--- The event types of a program that is built are integers and strings under names, and it has one monitor.
-use Rattle.std.proofs.Common.{◌≡◌, ℕ, zero, suc, ◌≤◌, List, [], ◌∷◌, ◌++◌, map, length, Bool, true, false, ◌&&◌, Option, Some, None, refl, sym, ◌∙◌, ap, subst, arith, flat_map, true≢false}
+-- The event types of a typed program whose names are spelled as names can be read in event files.
+use Rattle.std.proofs.Common.{◌≡◌, ℕ, zero, suc, ◌+◌, ◌<◌, ◌≤◌, List, [], ◌∷◌, ◌++◌, map, length, flat_map, Bool, true, false, ◌&&◌, not, Option, Some, None, refl, sym, ◌∙◌, ap, subst, arith, inl, inr, if◌then◌else◌}
+use Rattle.std.specs.Prelude.{nat_le}
 use Rattle.std.specs.List.{AllByRecursion, list_all, slice_get}
-use Rattle.std.proofs.lemmas.Option.{none-some}
-use Rattle.epl_values.specs.declared.shape.Shape.TheVariants as shape
-use Rattle.epl_values.specs.declared.shape.Shape.TheOpen as shape_layer
-use Rattle.epl_values.specs.declared.shape.Shape.TheFolds.{fold-roll-Shape}
+use Rattle.std.proofs.lemmas.Bool.{and_parts, ltb-true, leb-true}
+use Rattle.epl_values.specs.declared.shape.Shape.{Shape, Shape-F, roll-Shape, map-Shape, fold-Shape, fold-roll-Shape, ind-Shape}
+use Rattle.epl_values.specs.declared.shape.Shape.TheOpen as layer
+use Rattle.epl_values.specs.declared.shape.Field.{Field}
 use Rattle.epl_values.specs.declared.shape.EventShape.{EventShape}
-use Rattle.span_text.specs.declared.spot.Spot.{Spot}
-use Rattle.epl_tree.specs.declared.types.TypeExpr.{TypeExpr, out-TypeExpr, fold_out-TypeExpr}
-use Rattle.epl_tree.specs.declared.types.TypeNode.{TypeNode, TypeNode-F, map-TypeNode, out-TypeNode, fold-TypeNode, fold_out-TypeNode}
-use Rattle.epl_tree.specs.declared.types.TypeNode.TheOpen as node
 use Rattle.epl_tree.specs.declared.unit.Declaration.{Declaration}
 use Rattle.epl_tree.specs.declared.unit.Declaration.TheVariants as declaration
 use Rattle.epl_tree.specs.declared.unit.EventDecl.{EventDecl}
-use Rattle.epl_tree.specs.declared.unit.FieldDecl.{FieldDecl}
-use Rattle.evt_text.specs.Forms.{Form, form_step, form_of, types_in, types_held, HasKnownFields, Holds, IsName, HasNames, HasDistinctNames, AreEventTypes}
-use Rattle.type_table.specs.Found.{Found}
-use Rattle.type_table.specs.Types.{Written, node_found, written_step, written_of, type_by}
-use Rattle.type_table.specs.Gathers.{field_shape, event_shape}
-use Rattle.type_table.specs.Kinds.{kinds_after}
-use Rattle.epl_values.specs.declared.shape.Shape.{Shape}
-use Rattle.first_form.specs.Form.{is_built_type, is_built_field, is_built_event, is_built_monitor, are_built}
+use Rattle.value_rules.specs.Types as value
+use Rattle.evt_text.specs.Forms.{Form, form_step, form_of, types_in, fields_of, types_held, IsAmong, AreTypes, HasKnownFields, Holds, IsName, HasNames, AreEventTypes}
+use Rattle.typed_program.specs.declared.program.Program.{Program}
+use Rattle.typed_program.specs.Shapes.{Standing, holds_link, standing_step, stands}
+use Rattle.typed_program.specs.Limits.{are_narrow, has_few_params, within_limits}
+use Rattle.typed_program.specs.Typed.{Typed}
+use Rattle.type_table.specs.Names.{has_name}
+use Rattle.type_table.specs.Gathers.{event_shape}
+use Rattle.type_table.specs.Kinds.{names_of, with_kind, kind_step, kinds_after}
 use Rattle.program_reader.proofs.Named.{IsNamed}
 
-pub and-left : (a b : Bool) → (a && b) ≡ true → a ≡ true
-and-left true b h = refl
-and-left false b h = h
+-- ---- the types that stand in shapes
 
-pub and-right : (a b : Bool) → (a && b) ≡ true → b ≡ true
-and-right true b h = h
-and-right false b h = absurd (true≢false (sym h))
+all_joined : (P : ℕ → Type 0) (xs ys : List ℕ) → AllByRecursion P xs → AllByRecursion P ys → AllByRecursion P (xs ++ ys)
+all_joined P [] ys h k = k
+all_joined P (x ∷ xs) ys h k = (h.0, all_joined P xs ys h.1 k)
 
-integer-plain : types_in (form_of shape.Integer) ≡ []
-integer-plain = ap types_in (ap form_of (sym shape.rolls-Integer) ∙ fold-roll-Shape Form form_step shape_layer.Integer)
+module _ (types : List EventShape) where
+  abbrev standing : Shape → Standing
+  standing = fold-Shape Standing (standing_step types)
 
-text-plain : types_in (form_of shape.Text) ≡ []
-text-plain = ap types_in (ap form_of (sym shape.rolls-Text) ∙ fold-roll-Shape Form form_step shape_layer.Text)
+  abbrev Knows : Shape → Type 0
+  Knows s = stands types s ≡ true → AreTypes types (types_in (form_of s))
 
-module _ (number_of : List ℕ → Option ℕ) where
-  layer-plain : (d : TypeNode-F TypeNode TypeExpr) (f : TypeNode → Spot → Found Shape) (g : TypeExpr → Written) (spot : Spot) → is_built_type d ≡ true → types_in (form_of (node_found number_of (map-TypeNode TypeNode TypeExpr (Spot → Found Shape) Written f g d) spot).part) ≡ []
-  layer-plain node.Integer f g spot h = integer-plain
-  layer-plain node.Boolean f g spot h = absurd (true≢false (sym h))
-  layer-plain node.Text f g spot h = text-plain
-  layer-plain node.Context f g spot h = absurd (true≢false (sym h))
-  layer-plain node.Listener f g spot h = absurd (true≢false (sym h))
-  layer-plain (node.Named name) f g spot h = absurd (true≢false (sym h))
-  layer-plain (node.Sequence item) f g spot h = absurd (true≢false (sym h))
-  layer-plain (node.Dictionary key value) f g spot h = absurd (true≢false (sym h))
+  abbrev Known : Type 0
+  Known = (s : Shape) × Knows s
 
-  node_of : TypeNode → Spot → Found Shape
-  node_of = fold-TypeNode (Spot → Found Shape) Written (node_found number_of) (written_step number_of)
+  abbrev shapes_in : Shape-F Known → Shape-F Shape
+  shapes_in y = map-Shape Known Shape (λ e. e.0) y
 
-  node-plain : (n : TypeNode) (spot : Spot) → is_built_type (out-TypeNode n) ≡ true → types_in (form_of (node_of n spot).part) ≡ []
-  unfolding node_of
-  node-plain n spot h =
-      ap (λ (x : Spot → Found Shape). types_in (form_of (x spot).part)) (fold_out-TypeNode (Spot → Found Shape) Written (node_found number_of) (written_step number_of) n)
-      ∙ layer-plain (out-TypeNode n) node_of (written_of number_of) spot h
+  layer_known : (y : Shape-F Known) → (standing_step types (map-Shape Shape Standing standing (shapes_in y))).stands ≡ true → AreTypes types (types_in (form_step (map-Shape Shape Form form_of (shapes_in y))))
+  layer_known layer.Integer h = tt
+  layer_known layer.Boolean h = tt
+  layer_known layer.Text h = tt
+  layer_known (layer.Sequence item) h = item.1 h
+  layer_known (layer.Dictionary key item) h =
+      let b = and_parts ((standing key.0).scalar && stands types key.0) (stands types item.0) h in
+      all_joined (λ n. n < length types) (types_in (form_of key.0)) (types_in (form_of item.0)) (key.1 (and_parts (standing key.0).scalar (stands types key.0) b.0).1) (item.1 b.1)
+  layer_known (layer.Event n) h = (ltb-true n (length types) h, tt)
+  layer_known layer.Context h = tt
+  layer_known layer.Listener h = tt
 
-  type-plain : (t : TypeExpr) → is_built_type (out-TypeNode (out-TypeExpr t).node) ≡ true → types_in (form_of (type_by number_of t).part) ≡ []
-  unfolding node_of
-  type-plain t h =
-      ap (λ (w : Written). types_in (form_of w.found.part)) (fold_out-TypeExpr (Spot → Found Shape) Written (node_found number_of) (written_step number_of) t)
-      ∙ node-plain (out-TypeExpr t).node (out-TypeExpr t).spot h
+  known_case : (x : Shape-F Shape) (y : Shape-F Known) → shapes_in y ≡ x → Knows (roll-Shape x)
+  known_case x y is = subst (λ (z : Shape-F Shape). Knows (roll-Shape z)) is (λ h.
+      subst (λ (f : Form). AreTypes types (types_in f)) (sym (fold-roll-Shape Form form_step (shapes_in y)))
+      (layer_known y (sym (ap (λ (w : Standing). w.stands) (fold-roll-Shape Standing (standing_step types) (shapes_in y))) ∙ h)))
 
-  fields-plain : (fields : List FieldDecl) → list_all is_built_field fields ≡ true → flat_map (λ f. types_in (form_of f.shape)) (map (field_shape number_of) fields) ≡ []
-  fields-plain [] h = refl
-  fields-plain (f ∷ fs) h = rw (type-plain f.shape (and-left _ _ h)) (fields-plain fs (and-right _ _ h))
+  -- each event type in a shape that stands is there
+  stands_known : (s : Shape) → stands types s ≡ true → AreTypes types (types_in (form_of s))
+  stands_known = ind-Shape Knows known_case
 
-  -- the types of a list of at most one event type
-  module _ (e : EventDecl) (plain : list_all is_built_field e.fields ≡ true) where
-    one-held : (n : ℕ) → types_held (event_shape number_of e ∷ []) n ≡ []
-    one-held zero = fields-plain e.fields plain
-    one-held (suc n) = refl
+  abbrev field_so : Field → Bool
+  field_so f = stands types f.shape && not (holds_link f.shape)
 
-    one-known : HasKnownFields (event_shape number_of e ∷ [])
-    one-known n = rw (one-held n) tt
+  fields_known : (fields : List Field) → list_all field_so fields ≡ true → AreTypes types (flat_map (λ f. types_in (form_of f.shape)) fields)
+  fields_known [] h = tt
+  fields_known (f ∷ fs) h =
+      let b = and_parts (field_so f) (list_all field_so fs) h in
+      all_joined (λ n. n < length types) (types_in (form_of f.shape)) (flat_map (λ g. types_in (form_of g.shape)) fs)
+      (stands_known f.shape (and_parts (stands types f.shape) (not (holds_link f.shape)) b.0).0) (fields_known fs b.1)
 
-    one-holds : (depth n m : ℕ) → Holds (event_shape number_of e ∷ []) depth n m → ⊥
-    one-holds zero n m h = rw (one-held n) at h
-    one-holds (suc depth) n m h = rw (one-held n) at h.1
+  at_fields : (events : List EventShape) (n : ℕ) → list_all (λ event. list_all field_so event.fields) events ≡ true → list_all field_so (fields_of (slice_get events n)) ≡ true
+  at_fields [] n h = refl
+  at_fields (e ∷ es) zero h = (and_parts (list_all field_so e.fields) (list_all (λ event. list_all field_so event.fields) es) h).0
+  at_fields (e ∷ es) (suc n) h = at_fields es n (and_parts (list_all field_so e.fields) (list_all (λ event. list_all field_so event.fields) es) h).1
 
-    one-distinct : HasDistinctNames (event_shape number_of e ∷ [])
-    one-distinct zero zero a b ha hb same = refl
-    one-distinct zero (suc j) a b ha hb same = absurd (none-some _ hb)
-    one-distinct (suc i) j a b ha hb same = absurd (none-some _ ha)
+-- the event types that fields name are there
+known_fields : (program : Program) → Typed program → HasKnownFields program.types
+known_fields program typed n = fields_known program.types (fields_of (slice_get program.types n)) (at_fields program.types program.types n typed.shapes.types)
 
-    one-types : IsName e.name.text → AreEventTypes (event_shape number_of e ∷ [])
-    one-types name = record { few = omega arith; names = (name, tt); distinct = one-distinct; fields = one-known; no_cycle = λ depth n h. one-holds depth n n h }
+-- ---- a type that contains itself does so for values too
 
-  none-holds : (depth n m : ℕ) → Holds [] depth n m → ⊥
-  none-holds zero n m h = h
-  none-holds (suc depth) n m h = h.1
+abbrev Agrees : Shape → Type 0
+Agrees s = types_in (form_of s) ≡ value.types_in (value.form_of s)
 
-  none-types : AreEventTypes []
-  none-types = record { few = omega arith; names = tt; distinct = λ i j a b ha hb same. absurd (none-some _ ha); fields = λ n. tt; no_cycle = λ depth n h. none-holds depth n n h }
+abbrev Agreeing : Type 0
+Agreeing = (s : Shape) × Agrees s
 
-  pub built-types : (ds : List Declaration) → are_built ds ≡ true → AllByRecursion IsNamed ds → AreEventTypes (map (event_shape number_of) (kinds_after [] (ds ++ [])))
-  built-types [] h named = absurd (true≢false (sym h))
-  built-types (declaration.Event e ∷ []) h named = absurd (true≢false (sym h))
-  built-types (declaration.Monitor m ∷ []) h named = none-types
-  built-types (declaration.Event e ∷ declaration.Event f ∷ []) h named = absurd (true≢false (sym (and-right _ _ h)))
-  built-types (declaration.Event e ∷ declaration.Monitor m ∷ []) h named = one-types e (and-left _ _ h) named.0
-  built-types (declaration.Monitor m ∷ d ∷ []) h named = absurd (true≢false (sym (and-left _ (is_built_monitor d) h)))
-  built-types (c ∷ d ∷ e ∷ ds) h named = absurd (true≢false (sym h))
+abbrev agreed : Shape-F Agreeing → Shape-F Shape
+agreed y = map-Shape Agreeing Shape (λ e. e.0) y
+
+layer_agrees : (y : Shape-F Agreeing) → types_in (form_step (map-Shape Shape Form form_of (agreed y))) ≡ value.types_in (value.form_step (map-Shape Shape value.Form value.form_of (agreed y)))
+layer_agrees layer.Integer = refl
+layer_agrees layer.Boolean = refl
+layer_agrees layer.Text = refl
+layer_agrees (layer.Sequence item) = item.1
+layer_agrees (layer.Dictionary key item) = ap (λ (ns : List ℕ). ns ++ types_in (form_of item.0)) key.1 ∙ ap (λ (ns : List ℕ). value.types_in (value.form_of key.0) ++ ns) item.1
+layer_agrees (layer.Event n) = refl
+layer_agrees layer.Context = refl
+layer_agrees layer.Listener = refl
+
+agrees_case : (x : Shape-F Shape) (y : Shape-F Agreeing) → agreed y ≡ x → Agrees (roll-Shape x)
+agrees_case x y is = subst (λ (z : Shape-F Shape). Agrees (roll-Shape z)) is (
+    ap (λ (f : Form). types_in f) (fold-roll-Shape Form form_step (agreed y))
+    ∙ layer_agrees y
+    ∙ sym (ap (λ (f : value.Form). value.types_in f) (fold-roll-Shape value.Form value.form_step (agreed y))))
+
+shape_agrees : (s : Shape) → Agrees s
+shape_agrees = ind-Shape Agrees agrees_case
+
+fields_agree : (fields : List Field) → flat_map (λ f. types_in (form_of f.shape)) fields ≡ flat_map (λ f. value.types_in (value.form_of f.shape)) fields
+fields_agree [] = refl
+fields_agree (f ∷ fs) =
+    ap (λ (ns : List ℕ). ns ++ flat_map (λ (g : Field). types_in (form_of g.shape)) fs) (shape_agrees f.shape)
+    ∙ ap (λ (ns : List ℕ). value.types_in (value.form_of f.shape) ++ ns) (fields_agree fs)
+
+held_at : (o : Option EventShape) → flat_map (λ (f : Field). types_in (form_of f.shape)) (fields_of o) ≡ flat_map (λ (f : Field). value.types_in (value.form_of f.shape)) (value.fields_of o)
+held_at None = refl
+held_at (Some e) = fields_agree e.fields
+
+among : (n : ℕ) (ns : List ℕ) → IsAmong n ns → value.IsAmong n ns
+among n [] h = h
+among n (m ∷ ms) (inl e) = inl e
+among n (m ∷ ms) (inr h) = inr (among n ms h)
+
+among_held : (types : List EventShape) (n m : ℕ) → IsAmong m (types_held types n) → value.IsAmong m (value.types_held types n)
+among_held types n m h = subst (λ (ns : List ℕ). value.IsAmong m ns) (held_at (slice_get types n)) (among m (types_held types n) h)
+
+holds : (types : List EventShape) (depth n m : ℕ) → Holds types depth n m → value.Holds types depth n m
+holds types zero n m h = among_held types n m h
+holds types (suc depth) n m h = (h.0, among_held types n h.0 h.1, holds types depth h.0 m h.2)
+
+-- ---- names
+
+abbrev AreNamed : List EventDecl → Type 0
+AreNamed kinds = AllByRecursion (λ e. IsName e.name.text) kinds
+
+one_more : (kinds : List EventDecl) (e : EventDecl) → AreNamed kinds → IsName e.name.text → AreNamed (kinds ++ e ∷ [])
+one_more [] e all name = (name, tt)
+one_more (k ∷ ks) e all name = (all.0, one_more ks e all.1 name)
+
+with_named : (kinds : List EventDecl) (e : EventDecl) → AreNamed kinds → IsName e.name.text → AreNamed (with_kind kinds e)
+with_named kinds e all name = go (has_name (names_of kinds) e.name.text)
+  where
+    go : (b : Bool) → AreNamed (if b then kinds else kinds ++ e ∷ [])
+    go true = all
+    go false = one_more kinds e all name
+
+step_named : (kinds : List EventDecl) (d : Declaration) → AreNamed kinds → IsNamed d → AreNamed (kind_step kinds d)
+step_named kinds (declaration.Event e) all named = with_named kinds e all named
+step_named kinds (declaration.Monitor m) all named = all
+
+kinds_named : (kinds : List EventDecl) (ds : List Declaration) → AreNamed kinds → AllByRecursion IsNamed ds → AreNamed (kinds_after kinds ds)
+kinds_named kinds [] all named = all
+kinds_named kinds (d ∷ ds) all named = kinds_named (kind_step kinds d) ds (step_named kinds d all named.0) named.1
+
+shapes_named : (number_of : List ℕ → Option ℕ) (kinds : List EventDecl) → AreNamed kinds → HasNames (map (event_shape number_of) kinds)
+shapes_named number_of [] all = tt
+shapes_named number_of (k ∷ ks) all = (all.0, shapes_named number_of ks all.1)
+
+-- the event types of declarations whose names are spelled as names
+pub types_named : (number_of : List ℕ → Option ℕ) (ds : List Declaration) → AllByRecursion IsNamed ds → HasNames (map (event_shape number_of) (kinds_after [] ds))
+types_named number_of ds named = shapes_named number_of (kinds_after [] ds) (kinds_named [] ds tt named)
+
+-- ---- limits
+
+few_both : (program : Program) → within_limits program ≡ true → (length program.types ≤ 1000) × (length program.monitors ≤ 1001)
+few_both program h =
+    let types = nat_le (length program.types) 1000 in
+    let monitors = nat_le (length program.monitors) 1001 in
+    let narrow = are_narrow program.types 0 program.types in
+    let params = list_all has_few_params program.actions in
+    let a = and_parts (types && monitors && narrow && params) (nat_le (length program.actions + length program.sites) 65535) h in
+    let b = and_parts (types && monitors && narrow) params a.0 in
+    let c = and_parts (types && monitors) narrow b.0 in
+    let d = and_parts types monitors c.0 in
+    (leb-true (length program.types) 1000 d.0, leb-true (length program.monitors) 1001 d.1)
+
+-- at most 1,001 monitors
+pub few_monitors : (program : Program) → Typed program → length program.monitors ≤ 65535
+few_monitors program typed = let few = few_both program typed.limits in omega arith
+
+-- the event types of a typed program with names
+pub are_event_types : (program : Program) → Typed program → HasNames program.types → AreEventTypes program.types
+are_event_types program typed named =
+    let few = few_both program typed.limits in
+    record {
+      few = omega arith;
+      names = named;
+      distinct = typed.distinct;
+      fields = known_fields program typed;
+      no_cycle = λ depth n h. typed.no_cycle depth n (holds program.types depth n n h);
+    }

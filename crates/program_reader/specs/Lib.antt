@@ -1,3 +1,2 @@
-pub mod Built
 pub mod Programs
 pub mod Steps

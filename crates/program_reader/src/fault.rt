@@ -5,21 +5,21 @@ use std::alloc::AllocError;
 use thiserror::Error;
 use type_table::CheckFault;
 
-/// Why a file has no program.
+/// Why files have no program. A first number is the place of a file among the program files.
 #[derive(Clone, Copy, Debug, Drop, Error)]
 pub enum ProgramFault {
-    /// No token begins there, or the bytes aren't UTF-8.
+    /// No token begins there in the first file without a tree, or its bytes aren't UTF-8.
     #[error("lex")]
-    Lex(Spot),
-    /// Its tokens are no program file; the place of the fault.
+    Lex(u32, Spot),
+    /// The tokens of the first file without a tree are no program file; the place of the fault.
     #[error("syntax")]
-    Syntax(Spot),
-    /// Its first typing fault: the code, the number of the file, and the spot.
+    Syntax(u32, Spot),
+    /// The first typing fault: the code, the file, and the spot.
     #[error("type {0}")]
     Typing(u8, u32, Spot),
-    /// It is accepted, and isn't of the form that is built.
+    /// The program is accepted; the first form in it that isn't built.
     #[error("unbuilt")]
-    Unbuilt,
+    Unbuilt(u32, Spot),
     #[error("no memory")]
     Memory,
 }

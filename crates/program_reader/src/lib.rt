@@ -1,4 +1,4 @@
-//! From the bytes of a program file to its typed program, or to why there is none.
+//! From the bytes of program files to their typed program, or to why there is none.
 #![tactic(auto)]
 
 mod fault;

@@ -7,9 +7,13 @@ mod limits;
 mod refusals;
 mod statements;
 
+ghost use Rattle.std.specs.Prelude.{◌<◌, ◌≤◌, length, IfOk};
+ghost use Rattle.std.specs.List.{AllByRecursion};
+
 use crate::{ProgramFault, program_from};
-use epl_values::Text;
+use epl_values::{Bytes, List, Text};
 use std::alloc::{AllocError, Global};
+use typed_program::Program;
 
 /// Event types and a monitor in whose last action, on the line behind, statements are put.
 const DOES: &str =
@@ -25,15 +29,56 @@ const WAITS: &str =
 /// The line of that expression.
 const WAITS_LINE: u32 = 5;
 
+/// One file.
+fn one(alloc: Global, bytes: &[u8]) -> Result<List<Bytes>, AllocError>
+    requires { length bytes.now < 4294967295 }
+    ensures each { IfOk result (λ texts. AllByRecursion (λ text. length text < 4294967295) texts) }
+    ensures few { IfOk result (λ texts. length texts ≤ 64) }
+{
+    let mut texts = List::new(alloc);
+    texts.push(Bytes::of(alloc, bytes)?)?;
+    Ok(texts)
+}
+
+/// Two files.
+fn two(alloc: Global, first: &[u8], second: &[u8]) -> Result<List<Bytes>, AllocError>
+    requires first { length first.now < 4294967295 }
+    requires second { length second.now < 4294967295 }
+    ensures each { IfOk result (λ texts. AllByRecursion (λ text. length text < 4294967295) texts) }
+    ensures few { IfOk result (λ texts. length texts ≤ 64) }
+{
+    let mut texts = List::new(alloc);
+    texts.push(Bytes::of(alloc, first)?)?;
+    texts.push(Bytes::of(alloc, second)?)?;
+    Ok(texts)
+}
+
+/// What is told of one file; nothing is told of a longer one than files may be.
+fn from_one(alloc: Global, bytes: &[u8]) -> Result<Program, ProgramFault> {
+    if bytes.len() >= 4294967295 {
+        return Err(ProgramFault::Memory);
+    }
+    let texts = one(alloc, bytes)?;
+    program_from(alloc, &texts)
+}
+
+/// What is told of two files.
+fn from_two(alloc: Global, first: &[u8], second: &[u8]) -> Result<Program, ProgramFault> {
+    if first.len() >= 4294967295 {
+        return Err(ProgramFault::Memory);
+    }
+    if second.len() >= 4294967295 {
+        return Err(ProgramFault::Memory);
+    }
+    let texts = two(alloc, first, second)?;
+    program_from(alloc, &texts)
+}
+
 /// The code, line and column of a text's typing fault, and zeros where the text is accepted; 255 for any other refusal.
 fn told(alloc: Global, text: &str) -> (u8, u32, u32) {
-    let bytes = text.as_bytes();
-    if bytes.len() >= 4294967295 {
-        return (255, 0, 0);
-    }
-    match program_from(alloc, bytes) {
+    match from_one(alloc, text.as_bytes()) {
         Ok(_) => (0, 0, 0),
-        Err(ProgramFault::Unbuilt) => (0, 0, 0),
+        Err(ProgramFault::Unbuilt(_, _)) => (0, 0, 0),
         Err(ProgramFault::Typing(code, 0, spot)) => (code, spot.line, spot.column),
         Err(_) => (255, 0, 0),
     }

@@ -3,8 +3,8 @@ use Rattle.std.specs.Prelude.{ℕ, List, [], ◌∷◌, Option, Some, None}
 use Rattle.actor_theory.specs.declared.entry.Entry.{Entry}
 use Rattle.actor_theory.specs.Machine.{ReaderCell, reader_after_item}
 use Rattle.typed_program.specs.declared.program.Program.{Program}
-use Rattle.naive_meaning.specs.declared.entry.Cargo.{Cargo}
-use Rattle.naive_meaning.specs.declared.entry.Cargo.TheVariants as cargo
+use Rattle.context_meaning.specs.declared.cargo.Cargo.{Cargo}
+use Rattle.context_meaning.specs.declared.cargo.Cargo.TheVariants as cargo
 use Rattle.naive_meaning.specs.declared.entry.Item.{Item}
 use Rattle.naive_meaning.specs.declared.entry.Item.TheVariants as item
 use Rattle.naive_meaning.specs.declared.record.ReaderRecord.{ReaderRecord}

@@ -21,7 +21,7 @@ pub struct Reader {
 
 impl Model for Reader {
     ghost use Rattle.actor_theory.specs.Machine.{ReaderCell};
-    ghost use Rattle.naive_meaning.specs.declared.entry.Cargo.{Cargo};
+    ghost use Rattle.context_meaning.specs.declared.cargo.Cargo.{Cargo};
     ghost use Rattle.naive_meaning.specs.declared.entry.Item.{Item};
     ghost use Rattle.epl_values.specs.contracts.value.Value as value;
     ghost use Rattle.std.specs.Coded.{codes};

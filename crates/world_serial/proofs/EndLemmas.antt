@@ -9,10 +9,10 @@ use Rattle.actor_theory.specs.Machine.{Cell, queue_at, slots_kept, kept_of}
 use Rattle.actor_theory.proofs.Looping.{machine-scheduled}
 use Rattle.actor_theory.proofs.Keeping.{scheduled-kept}
 use Rattle.typed_program.specs.declared.program.Program.{Program}
-use Rattle.naive_meaning.specs.declared.context.Context.{Context}
-use Rattle.naive_meaning.specs.declared.entry.Cargo.{Cargo}
+use Rattle.context_meaning.specs.declared.context.Context.{Context}
+use Rattle.context_meaning.specs.declared.cargo.Cargo.{Cargo}
 use Rattle.naive_meaning.specs.declared.entry.Item.{Item}
-use Rattle.naive_meaning.specs.declared.entry.Line.{Line}
+use Rattle.context_meaning.specs.declared.cargo.Line.{Line}
 use Rattle.naive_meaning.specs.declared.record.ContextRecord.{ContextRecord}
 use Rattle.naive_meaning.specs.declared.record.ReaderRecord.{ReaderRecord}
 use Rattle.naive_meaning.specs.declared.record.Record.{Record}
@@ -102,36 +102,37 @@ world-record settings w cells queued rest made left of_reader count cells_are qu
     with_parts cs rr = record { settings = settings; contexts = cs; reader = rr }
 
 -- the records of the cells are what is kept of them
-kept-slots : (p : Program) (contexts k : ℕ) (cells : List (Cell Context Cargo)) (queued : List (List (Entry Cargo))) → k + length cells ≤ length queued
-    → map records.slot_kept (records_of contexts cells (drop k queued)) ≡ slots_kept contexts (contexts_of p) records.shown queued k cells
-kept-slots p contexts k [] queued le = refl
-kept-slots p contexts k (c ∷ cs) queued le =
+kept-slots : (p : Program) (contexts fuel k : ℕ) (cells : List (Cell Context Cargo)) (queued : List (List (Entry Cargo))) → k + length cells ≤ length queued
+    → map records.slot_kept (records_of contexts cells (drop k queued)) ≡ slots_kept contexts (contexts_of p contexts fuel) records.shown queued k cells
+kept-slots p contexts fuel k [] queued le = refl
+kept-slots p contexts fuel k (c ∷ cs) queued le =
     let lt : k < length queued = omega arith in
     ap (λ qs. map records.slot_kept (records_of contexts (c ∷ cs) qs)) (queues-from k queued lt)
-    ∙ ap (λ (xs : List (kept.SlotKept (List Line) Cargo)). records.slot_kept (record { lines = c.state.lines; handled = c.log; left = ordered (suc contexts) (queue_at queued k); spent = c.state.spent }) ∷ xs) (kept-slots p contexts (suc k) cs queued (omega arith))
+    ∙ ap (λ (xs : List (kept.SlotKept (List Line) Cargo)). records.slot_kept (record { lines = c.state.lines; handled = c.log; left = ordered (suc contexts) (queue_at queued k); spent = c.state.spent }) ∷ xs) (kept-slots p contexts fuel (suc k) cs queued (omega arith))
 
 -- what is kept of the record of the parts
 kept-world : (p : Program) (settings : Settings) (w : World) → length w.cells.items ≤ length w.queued.items
-    → records.kept_of (record_of_world settings w) ≡ kept_of settings.contexts (contexts_of p) records.shown w.cells.items w.reader w.queued.items
+    → records.kept_of (record_of_world settings w) ≡ kept_of settings.contexts (contexts_of p settings.contexts settings.fuel) records.shown w.cells.items w.reader w.queued.items
 kept-world p settings w le =
     let enough : 0 + length w.cells.items ≤ length w.queued.items = omega arith in
-    ap (λ (slots : List (kept.SlotKept (List Line) Cargo)). with_slots slots) (kept-slots p settings.contexts 0 w.cells.items w.queued.items enough)
+    ap (λ (slots : List (kept.SlotKept (List Line) Cargo)). with_slots slots) (kept-slots p settings.contexts settings.fuel 0 w.cells.items w.queued.items enough)
   where
     with_slots : List (kept.SlotKept (List Line) Cargo) → kept.Kept (List Line) Cargo Item
     with_slots slots = record { slots = slots; steps = w.reader.steps; left = ordered (suc settings.contexts) (queue_at w.queued.items settings.contexts) }
 
 -- the record at the end is the scheduled one
-pub ends-scheduled : (p : Program) (items : List Item) (settings : Settings) (booted last : World) (r : Record) → IsBooted p settings.contexts items booted → FinishesOn p settings.contexts true booted last → r ≡ record_of_world settings last
+pub ends-scheduled : (p : Program) (items : List Item) (settings : Settings) (booted last : World) (r : Record) → IsBooted p settings.contexts settings.fuel items booted → FinishesOn p settings.contexts settings.fuel true booted last → r ≡ record_of_world settings last
     → records.IsScheduled p items settings [] r
 ends-scheduled p items settings booted last r boot finishes is =
     let contexts = settings.contexts in
+    let fuel = settings.fuel in
     let cells = finishes.standing.cells_count in
     let queues = finishes.standing.queues_count in
     let enough : length last.cells.items ≤ length last.queued.items = omega arith in
-    let scheduled = machine-scheduled contexts (contexts_of p) (reader_of p) records.shown [] booted.cells.items booted.reader booted.queued.items (moment_of contexts booted) last.cells.items last.reader last.queued.items boot.boot refl finishes.finished
+    let scheduled = machine-scheduled contexts (contexts_of p contexts fuel) (reader_of p) records.shown [] booted.cells.items booted.reader booted.queued.items (moment_of contexts booted) last.cells.items last.reader last.queued.items boot.boot refl finishes.finished
     finishes.standing in
-    let P : List Item → Type 0 = λ its. kept.IsScheduled contexts (contexts_of p) (reader_of p) records.shown its [] (kept_of contexts (contexts_of p) records.shown last.cells.items last.reader last.queued.items) in
-    let Q : kept.Kept (List Line) Cargo Item → Type 0 = λ k. kept.IsScheduled contexts (contexts_of p) (reader_of p) records.shown items [] k in
+    let P : List Item → Type 0 = λ its. kept.IsScheduled contexts (contexts_of p contexts fuel) (reader_of p) records.shown its [] (kept_of contexts (contexts_of p contexts fuel) records.shown last.cells.items last.reader last.queued.items) in
+    let Q : kept.Kept (List Line) Cargo Item → Type 0 = λ k. kept.IsScheduled contexts (contexts_of p contexts fuel) (reader_of p) records.shown items [] k in
     record {
       same_settings = ap (λ (x : Record). x.settings) is;
       scheduled = subst Q (sym (ap records.kept_of is ∙ kept-world p settings last enough)) (subst P boot.items_are scheduled);
@@ -141,5 +142,5 @@ ends-scheduled p items settings booted last r boot finishes is =
 pub scheduled-faithful : (p : Program) (items : List Item) (settings : Settings) (r : Record) → records.IsScheduled p items settings [] r → records.IsFaithful p items settings r
 scheduled-faithful p items settings r h = record {
   same_settings = h.same_settings;
-  faithful = scheduled-kept settings.contexts (contexts_of p) (reader_of p) records.shown items [] (records.kept_of r) h.scheduled;
+  faithful = scheduled-kept settings.contexts (contexts_of p settings.contexts settings.fuel) (reader_of p) records.shown items [] (records.kept_of r) h.scheduled;
 }

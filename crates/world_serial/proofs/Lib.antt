@@ -3,3 +3,5 @@ pub mod TurnLemmas
 pub mod RoundLemmas
 pub mod StartLemmas
 pub mod EndLemmas
+pub mod Resting
+pub mod FittingLemmas

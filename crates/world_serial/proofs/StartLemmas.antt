@@ -8,13 +8,15 @@ use Rattle.actor_theory.specs.Machine.{Cell, ReaderCell, world_of, Stand, empty_
 use Rattle.actor_theory.proofs.Beginning.{fresh-stand}
 use Rattle.actor_theory.proofs.Looping.{machine-boot}
 use Rattle.typed_program.specs.declared.program.Program.{Program}
-use Rattle.naive_meaning.specs.declared.context.Context.{Context}
-use Rattle.naive_meaning.specs.declared.entry.Cargo.{Cargo}
-use Rattle.naive_meaning.specs.declared.entry.Cargo.TheVariants as cargo
+use Rattle.context_meaning.specs.declared.context.Context.{Context}
+use Rattle.context_meaning.specs.declared.cargo.Cargo.{Cargo}
+use Rattle.context_meaning.specs.declared.cargo.Cargo.TheVariants as cargo
 use Rattle.naive_meaning.specs.declared.entry.Item.{Item}
+use Rattle.naive_meaning.specs.Fits.{ItemsFit}
 use Rattle.naive_meaning.specs.Actors.{contexts_of, reader_of, loads_below}
 use Rattle.world_serial.specs.declared.world.World.{World}
 use Rattle.world_serial.specs.Serial.{IsStanding, actors_of, moment_of, IsFresh, FinishesOn, IsBooted}
+use Rattle.world_serial.proofs.FittingLemmas.{given-fits}
 use Rattle.world_serial.proofs.Sends.{ToMain, delivered-main}
 
 -- one more empty queue, at the end or at the front
@@ -43,27 +45,27 @@ queues-loaded p contexts actors n queued queued' q q' some count empty read moni
     put ∙ ap (λ qs. slice_set qs 0 q') same ∙ ap (λ (r : List (Entry Cargo)). r ∷ empty_queues contexts) (loads ∙ ap (λ k. map (stamped contexts 0) (loads_below k)) monitors) ∙ sym main
 
 -- the parts at the start stand
-pub fresh-stands : (p : Program) (contexts : ℕ) (w : World) → IsFresh p contexts w → IsStanding p contexts w
-fresh-stands p contexts w h =
-    let A : List (Cell Context Cargo) → ReaderCell (Unit {0}) Cargo Item → List (List (Entry Cargo)) → Type 0 = Stand contexts (contexts_of p) (reader_of p) in
-    let at_end : A (fresh_cells (contexts_of p) contexts) (fresh_reader (reader_of p) []) (loaded_queues contexts (reader_of p)) = fresh-stand contexts (contexts_of p) (reader_of p) [] in
+pub fresh-stands : (p : Program) (contexts fuel : ℕ) (w : World) → IsFresh p contexts fuel w → IsStanding p contexts fuel w
+fresh-stands p contexts fuel w h =
+    let A : List (Cell Context Cargo) → ReaderCell (Unit {0}) Cargo Item → List (List (Entry Cargo)) → Type 0 = Stand contexts (contexts_of p contexts fuel) (reader_of p) in
+    let at_end : A (fresh_cells (contexts_of p contexts fuel) contexts) (fresh_reader (reader_of p) []) (loaded_queues contexts (reader_of p)) = fresh-stand contexts (contexts_of p contexts fuel) (reader_of p) [] in
     let P : List (Cell Context Cargo) → Type 0 = λ cells. A cells (fresh_reader (reader_of p) []) (loaded_queues contexts (reader_of p)) in
     let Q : ReaderCell (Unit {0}) Cargo Item → Type 0 = λ reader. A w.cells.items reader (loaded_queues contexts (reader_of p)) in
     let R : List (List (Entry Cargo)) → Type 0 = λ queued. A w.cells.items w.reader queued in
     subst R (sym h.queued_are) (subst Q (sym h.reader_is) (subst P (sym h.cells_are) at_end))
 
 -- what the parts at the start are as logs and queues
-fresh-moment : (p : Program) (contexts : ℕ) (w : World) → IsFresh p contexts w
-    → moment_of contexts w ≡ world_of contexts (fresh_cells (contexts_of p) contexts) (fresh_reader (reader_of p) []) (loaded_queues contexts (reader_of p))
-fresh-moment p contexts w h =
+fresh-moment : (p : Program) (contexts fuel : ℕ) (w : World) → IsFresh p contexts fuel w
+    → moment_of contexts w ≡ world_of contexts (fresh_cells (contexts_of p contexts fuel) contexts) (fresh_reader (reader_of p) []) (loaded_queues contexts (reader_of p))
+fresh-moment p contexts fuel w h =
     ap (λ (cells : List (Cell Context Cargo)). world_of contexts cells w.reader w.queued.items) h.cells_are
-    ∙ ap (λ (reader : ReaderCell (Unit {0}) Cargo Item). world_of contexts (fresh_cells (contexts_of p) contexts) reader w.queued.items) h.reader_is
-    ∙ ap (λ (queued : List (List (Entry Cargo))). world_of contexts (fresh_cells (contexts_of p) contexts) (fresh_reader (reader_of p) []) queued) h.queued_are
+    ∙ ap (λ (reader : ReaderCell (Unit {0}) Cargo Item). world_of contexts (fresh_cells (contexts_of p contexts fuel) contexts) reader w.queued.items) h.reader_is
+    ∙ ap (λ (queued : List (List (Entry Cargo))). world_of contexts (fresh_cells (contexts_of p contexts fuel) contexts) (fresh_reader (reader_of p) []) queued) h.queued_are
 
 -- the parts stand as well with other items to come
-given-stands : (p : Program) (contexts : ℕ) (cells : List (Cell Context Cargo)) (reader : ReaderCell (Unit {0}) Cargo Item) (queued : List (List (Entry Cargo))) (items : List Item) → Stand contexts (contexts_of p) (reader_of p) cells reader queued
-    → Stand contexts (contexts_of p) (reader_of p) cells (record reader { rest = items }) queued
-given-stands p contexts cells reader queued items h = record {
+given-stands : (p : Program) (contexts fuel : ℕ) (cells : List (Cell Context Cargo)) (reader : ReaderCell (Unit {0}) Cargo Item) (queued : List (List (Entry Cargo))) (items : List Item) → Stand contexts (contexts_of p contexts fuel) (reader_of p) cells reader queued
+    → Stand contexts (contexts_of p contexts fuel) (reader_of p) cells (record reader { rest = items }) queued
+given-stands p contexts fuel cells reader queued items h = record {
   cells_count = h.cells_count;
   queues_count = h.queues_count;
   cells_are = h.cells_are;
@@ -72,25 +74,26 @@ given-stands p contexts cells reader queued items h = record {
 }
 
 -- after boot's rounds the items are given
-pub boots : (p : Program) (contexts : ℕ) (first last given : World) (items : List Item) → IsFresh p contexts first → FinishesOn p contexts false first last → given.cells ≡ last.cells → given.queued ≡ last.queued
-    → given.reader ≡ record last.reader { rest = items } → IsBooted p contexts items given
-boots p contexts first last given items fresh finishes cells queued reader =
+pub boots : (p : Program) (contexts fuel : ℕ) (first last given : World) (items : List Item) → IsFresh p contexts fuel first → FinishesOn p contexts fuel false first last → given.cells ≡ last.cells → given.queued ≡ last.queued
+    → given.reader ≡ record last.reader { rest = items } → ItemsFit p items → IsBooted p contexts fuel items given
+boots p contexts fuel first last given items fresh finishes cells queued reader fit =
     let none : last.reader.rest ≡ [] = finishes.waits refl ∙ ap (λ (r : ReaderCell (Unit {0}) Cargo Item). r.rest) fresh.reader_is in
     let emptied : record last.reader { rest = [] } ≡ last.reader = ap (λ (is : List Item). record last.reader { rest = is }) (sym none) in
     let same : without_items given.reader ≡ last.reader = ap without_items reader ∙ emptied in
-    let F : Moment (Cargo ⊎ Item) → Moment (Cargo ⊎ Item) → Type 0 = IsFinished (actors_of p contexts) false in
+    let F : Moment (Cargo ⊎ Item) → Moment (Cargo ⊎ Item) → Type 0 = IsFinished (actors_of p contexts fuel) false in
     let to : moment_of contexts last ≡ world_of contexts given.cells.items (without_items given.reader) given.queued.items =
     ap (λ (r : ReaderCell (Unit {0}) Cargo Item). world_of contexts last.cells.items r last.queued.items) (sym same) ∙ ap (λ c. world_of contexts c.items (without_items given.reader) last.queued.items) (sym cells)
     ∙ ap (λ q. world_of contexts given.cells.items (without_items given.reader) q.items) (sym queued) in
     let P : Moment (Cargo ⊎ Item) → Type 0 = λ m. F m (moment_of contexts last) in
-    let Q : Moment (Cargo ⊎ Item) → Type 0 = λ m. F (world_of contexts (fresh_cells (contexts_of p) contexts) (fresh_reader (reader_of p) []) (loaded_queues contexts (reader_of p))) m in
-    let finished = subst Q to (subst P (fresh-moment p contexts first fresh) finishes.finished) in
-    let S : List (Cell Context Cargo) → ReaderCell (Unit {0}) Cargo Item → List (List (Entry Cargo)) → Type 0 = Stand contexts (contexts_of p) (reader_of p) in
-    let stands : S last.cells.items (record last.reader { rest = items }) last.queued.items = given-stands p contexts last.cells.items last.reader last.queued.items items finishes.standing in
+    let Q : Moment (Cargo ⊎ Item) → Type 0 = λ m. F (world_of contexts (fresh_cells (contexts_of p contexts fuel) contexts) (fresh_reader (reader_of p) []) (loaded_queues contexts (reader_of p))) m in
+    let finished = subst Q to (subst P (fresh-moment p contexts fuel first fresh) finishes.finished) in
+    let S : List (Cell Context Cargo) → ReaderCell (Unit {0}) Cargo Item → List (List (Entry Cargo)) → Type 0 = Stand contexts (contexts_of p contexts fuel) (reader_of p) in
+    let stands : S last.cells.items (record last.reader { rest = items }) last.queued.items = given-stands p contexts fuel last.cells.items last.reader last.queued.items items finishes.standing in
     let with_reader : S last.cells.items given.reader last.queued.items = let R : ReaderCell (Unit {0}) Cargo Item → Type 0 = λ r. S last.cells.items r last.queued.items in subst R (sym reader) stands in
     let with_cells : S given.cells.items given.reader last.queued.items = subst (λ c. S c.items given.reader last.queued.items) (sym cells) with_reader in
     record {
       standing = subst (λ q. S given.cells.items given.reader q.items) (sym queued) with_cells;
-      boot = machine-boot contexts (contexts_of p) (reader_of p) given.cells.items given.reader given.queued.items finished;
+      fitting = given-fits p last given items finishes.fitting (ap (λ c. c.items) cells) (ap (λ (r : ReaderCell (Unit {0}) Cargo Item). r.rest) reader) (ap (λ q. q.items) queued) fit;
+      boot = machine-boot contexts (contexts_of p contexts fuel) (reader_of p) given.cells.items given.reader given.queued.items finished;
       items_are = ap (λ (r : ReaderCell (Unit {0}) Cargo Item). r.rest) reader;
     }

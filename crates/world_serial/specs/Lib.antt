@@ -1,2 +1,3 @@
+pub mod Fitting
 pub mod Serial
 pub mod Queued

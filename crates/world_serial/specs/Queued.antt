@@ -3,8 +3,8 @@ use Rattle.std.specs.Prelude.{ℕ, suc, List, [], ◌∷◌, not, ◌==◌, Opti
 use Rattle.actor_theory.specs.declared.entry.Entry.{Entry}
 use Rattle.actor_theory.specs.Machine.{Cell}
 use Rattle.actor_theory.specs.Order.{ordered}
-use Rattle.naive_meaning.specs.declared.context.Context.{Context}
-use Rattle.naive_meaning.specs.declared.entry.Cargo.{Cargo}
+use Rattle.context_meaning.specs.declared.context.Context.{Context}
+use Rattle.context_meaning.specs.declared.cargo.Cargo.{Cargo}
 use Rattle.naive_meaning.specs.declared.record.ContextRecord.{ContextRecord}
 use Rattle.context_core.specs.Cells.{record_of}
 

@@ -1,6 +1,8 @@
-ghost use Rattle.std.specs.Prelude.{◌≡◌, ◌<◌, ◌≤◌, ◌+◌, ◌++◌, [], length, drop, IfOk, OnOk};
+ghost use Rattle.std.specs.Prelude.{◌≡◌, ◌<◌, ◌≤◌, ◌+◌, ◌-◌, ◌^◌, ◌++◌, [], length, drop, IfOk, OnOk};
 ghost use Rattle.actor_theory.specs.Language.{by};
 ghost use Rattle.actor_theory.specs.Order.{ordered};
+ghost use Rattle.typed_program.specs.Typed.{Typed};
+ghost use Rattle.naive_meaning.specs.Fits.{ItemsFit};
 ghost use Rattle.naive_meaning.specs.Records.{IsFaithful, IsScheduled};
 ghost use Rattle.world_serial.specs.Queued.{but, first_queue, records_of};
 ghost use Rattle.world_serial.specs.Serial.{record_of_world};
@@ -106,21 +108,24 @@ fn into_record(alloc: Global, settings: Settings, world: World) -> Result<Record
 }
 
 /// Runs a program over these items, and gives the record that boot and rounds until one handles nothing make. It is
-/// faithful: each context's lines are those of naive evaluation over its log. Settings are in range, and there are at
-/// most as many monitors as have numbers.
+/// faithful: each context's lines are those of naive evaluation over its log. The program is well typed, the items are
+/// events of its types, settings are in range, and there are at most as many monitors as have numbers.
 pub fn run(
     alloc: Global,
     program: &Program,
     items: Items,
     settings: Settings,
 ) -> Result<Record, Memory>
+    requires typed { Typed program.now }
+    requires items { ItemsFit program.now items }
     requires settings { (0 < settings.contexts) × (settings.contexts < 255) }
+    requires fuel { settings.fuel < 2 ^ 64 - 1 }
     requires monitors { length program.now.monitors ≤ 65535 }
     ensures scheduled { IfOk result (λ r. IsScheduled program.now items settings [] r) }
     ensures faithful { IfOk result (λ r. IsFaithful program.now items settings r) }
 {
-    let mut world = boot(alloc, program, items, settings.contexts)?;
-    run_rounds(&mut world, program, settings.contexts, true)?;
+    let mut world = boot(alloc, program, items, settings)?;
+    run_rounds(&mut world, program, settings, true)?;
     let record = into_record(alloc, settings, world)?;
     Ok(record)
 }

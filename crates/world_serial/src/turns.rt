@@ -1,12 +1,14 @@
-ghost use Rattle.std.specs.Prelude.{◌≡◌, ◌<◌, ◌+◌, Bool, false, length, slice_set, IfOk, OnOk};
+ghost use Rattle.std.specs.Prelude.{◌≡◌, ℕ, ◌<◌, ◌+◌, Bool, false, length, slice_set, IfOk, OnOk};
 ghost use Rattle.actor_theory.specs.Machine.{queue_at};
 ghost use Rattle.typed_program.specs.declared.program.Program.{Program as TheProgram};
+ghost use Rattle.typed_program.specs.Typed.{Typed};
+ghost use Rattle.world_serial.specs.Fitting.{IsFitting};
 ghost use Rattle.world_serial.specs.Queued.{first_of, rest_of};
 ghost use Rattle.world_serial.specs.Serial.{IsStanding, TurnsOn};
 
 use crate::World;
 use epl_values::Memory;
-use naive_meaning::{Entry, Program};
+use naive_meaning::{Entry, Program, Settings};
 use queues::Queue;
 
 fn take_first(queued: &mut Vec<Queue<Entry>>, place: usize) -> Option<Entry>
@@ -21,12 +23,15 @@ fn take_first(queued: &mut Vec<Queue<Entry>>, place: usize) -> Option<Entry>
 pub fn slot_turn(
     world: &mut World,
     program: &Program,
-    contexts: u8,
+    settings: Settings,
     slot: u8,
 ) -> Result<bool, Memory>
-    requires slot { slot < contexts }
-    requires standing { IsStanding program.now contexts world.old }
-    ensures turn { IfOk result (λ found. (takes : Bool) → TurnsOn program.now contexts takes slot world.old world.new found) }
+    requires typed { Typed program.now }
+    requires slot { slot < settings.contexts }
+    requires standing { IsStanding program.now settings.contexts settings.fuel world.old }
+    requires fitting { IsFitting program.now world.old }
+    ensures turn { IfOk result (λ found. (takes : Bool) → TurnsOn program.now settings.contexts settings.fuel takes slot world.old world.new found) }
+    ensures fits { OnOk result (IsFitting program.now world.new) }
     ensures waits { OnOk result (world.new.reader ≡ world.old.reader) }
 {
     let place = slot as usize;
@@ -44,7 +49,8 @@ pub fn slot_turn(
 pub fn reader_turn(world: &mut World, contexts: u8, takes: bool) -> Result<bool, Memory>
     requires some { 0 < contexts }
     requires queues { length world.old.queued.items ≡ contexts + 1 }
-    ensures turn { IfOk result (λ found. (p : TheProgram) → IsStanding p contexts world.old → TurnsOn p contexts takes contexts world.old world.new found) }
+    ensures turn { IfOk result (λ found. (p : TheProgram) (fuel : ℕ) → IsStanding p contexts fuel world.old → TurnsOn p contexts fuel takes contexts world.old world.new found) }
+    ensures fits { OnOk result ((p : TheProgram) → IsFitting p world.old → IsFitting p world.new) }
     ensures waits { OnOk result (takes ≡ false → world.new.reader.rest ≡ world.old.reader.rest) }
 {
     if let Some(entry) = take_first(&mut world.queued, contexts as usize) {

@@ -1,28 +1,15 @@
-use decl_parser::unit;
-use epl_lexer::tokens_of;
-use epl_tree::{Unit, Units};
+use super::from_two;
+use crate::ProgramFault;
 use std::alloc::Global;
 use std::test::Fail;
-use stmt_check::check;
-use type_table::CheckFault;
-
-fn tree(alloc: Global, text: &str) -> Result<Unit, Fail> {
-    if text.len() >= 4294967295 {
-        Err("long")?
-    }
-    let tokens = tokens_of(alloc, text)?;
-    Ok(unit(alloc, &tokens)?)
-}
 
 /// The code, file, line and column of the fault of two files, and zeros where there is none.
 fn told_of_two(alloc: Global, first: &str, second: &str) -> Result<(u8, u32, u32, u32), Fail> {
-    let mut units = Units::new(alloc);
-    units.push(tree(alloc, first)?)?;
-    units.push(tree(alloc, second)?)?;
-    match check(alloc, &units) {
+    match from_two(alloc, first.as_bytes(), second.as_bytes()) {
         Ok(_) => Ok((0, 0, 0, 0)),
-        Err(CheckFault::Typing(code, file, spot)) => Ok((code, file, spot.line, spot.column)),
-        Err(CheckFault::Memory) => Err("memory")?,
+        Err(ProgramFault::Unbuilt(_, _)) => Ok((0, 0, 0, 0)),
+        Err(ProgramFault::Typing(code, file, spot)) => Ok((code, file, spot.line, spot.column)),
+        Err(_) => Err("no typing fault")?,
     }
 }
 

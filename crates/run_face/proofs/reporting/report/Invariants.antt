@@ -3,4 +3,4 @@ use Rattle.naive_meaning.specs.Report.{reports_from}
 use Rattle.run_face.proofs.reporting.report.Given as goal
 
 abbrev pub invariant-slots : goal.invariant-slots
-invariant-slots l = l.out ++ reports_from l.slot (drop l.slot l.kept.contexts) ≡ reports_from 0 l.kept.contexts
+invariant-slots l = l.out ++ reports_from l.program l.slot (drop l.slot l.kept.contexts) ≡ reports_from l.program 0 l.kept.contexts

@@ -6,16 +6,17 @@ use Rattle.world_serial.proofs.rounds.round.Goals as goal
 pub slots-preserved : goal.slots-preserved
 slots-preserved c =
     let lt = c.slots-test.true in
-    let le : c.slots.slot ≤ c.args.contexts = omega arith in
+    let le : c.slots.slot ≤ c.args.settings.contexts = omega arith in
     let turned = c.in_ok-found.ensures.turn c.args.takes in
     record {
       standing = turned.stand;
-      rounding = turn-more c.args.program.now c.args.contexts c.args.takes (moment_of c.args.contexts c.args.world.now) c.slots.world c.slot_turn.new.world c.slots.slot c.slots.handled c.in_ok-found.found _ c.slots.invariant.rounding le turned refl;
+      fitting = c.in_ok-found.ensures.fits;
+      rounding = turn-more c.args.program.now c.args.settings.contexts c.args.settings.fuel c.args.takes (moment_of c.args.settings.contexts c.args.world.now) c.slots.world c.slot_turn.new.world c.slots.slot c.slots.handled c.in_ok-found.found _ c.slots.invariant.rounding le turned refl;
       waits = c.in_ok-found.ensures.waits ∙ c.slots.invariant.waits;
     }
 
 pub returns : goal.returns
 returns c =
-    let end : c.slots.slot ≡ c.args.contexts = omega arith in
-    round-over c.args.program.now c.args.contexts c.args.takes c.args.world.now c.slots.world c.reader_turn.new.world c.slots.slot c.slots.handled c.in_ok-found-2.found _ c.slots.invariant.rounding end c.slots.invariant.waits
-    (c.in_ok-found-2.ensures.turn c.args.program.now c.slots.invariant.standing) c.in_ok-found-2.ensures.waits refl
+    let end : c.slots.slot ≡ c.args.settings.contexts = omega arith in
+    round-over c.args.program.now c.args.settings.contexts c.args.settings.fuel c.args.takes c.args.world.now c.slots.world c.reader_turn.new.world c.slots.slot c.slots.handled c.in_ok-found-2.found _ c.slots.invariant.rounding end c.slots.invariant.waits
+    (c.in_ok-found-2.ensures.turn c.args.program.now c.args.settings.fuel c.slots.invariant.standing) c.in_ok-found-2.ensures.waits refl (c.in_ok-found-2.ensures.fits c.args.program.now c.slots.invariant.fitting)

@@ -1,0 +1,84 @@
+-- What is spelled fits its shape, and so the items of a file fit the program.
+use Rattle.std.proofs.Common.{ℕ, zero, suc, List, [], ◌∷◌, ◌++◌, map, Bool, true, false, Option, Some, None, Ok, sym, subst}
+use Rattle.std.specs.List.{flat_map}
+use Rattle.std.specs.Option.{option_to_list}
+use Rattle.std.proofs.lemmas.List.Elements.{All-cons, All-nil}
+use Rattle.epl_values.specs.declared.shape.Shape.{Shape, Shape-F, out-Shape, roll-Shape, roll-out-Shape}
+use Rattle.epl_values.specs.declared.shape.Shape.TheFolds.{fold_out-Shape, map-Shape}
+use Rattle.epl_values.specs.declared.shape.Shape.TheOpen as layer
+use Rattle.epl_values.specs.declared.shape.Shape.TheVariants as shape
+use Rattle.epl_values.specs.declared.shape.Field.{Field}
+use Rattle.epl_values.specs.declared.shape.EventShape.{EventShape}
+use Rattle.epl_values.specs.declared.value.Value.{Value}
+use Rattle.typed_program.specs.declared.program.Program.{Program}
+use Rattle.value_rules.specs.Types.{fields_of}
+use Rattle.value_shapes.specs.Fits.{Fit, AllFit}
+use Rattle.value_shapes.proofs.Lists.{fit_nil, fit_cons}
+use Rattle.value_shapes.proofs.Made.{event_made, integer_fits, is_event_fits, text_fits}
+use Rattle.naive_meaning.specs.declared.entry.Item.{Item}
+use Rattle.naive_meaning.specs.declared.entry.Item.TheVariants.{Event}
+use Rattle.naive_meaning.specs.Fits.{ItemFits, ItemsFit}
+use Rattle.evt_text.specs.Forms.{Form, form_of, form_step}
+use Rattle.evt_text.specs.Spelling.{Spells, SpellsFields, SpellsForm, SpellsWithin}
+use Rattle.evt_reader.specs.Files.{AreItems, AreLines, GivesItems, IsLine, lines_of}
+
+module _ (types : List EventShape) where
+  -- what `P` spells fits the shape
+  abbrev Inner : (Form → Value → List ℕ → Type 0) → Type 0
+  Inner P = (s : Shape) (x : Value) (text : List ℕ) → P (form_of s) x text → Fit types x s
+
+  -- the values of fields fit the shapes of the fields
+  fields_fit : (P : Form → Value → List ℕ → Type 0) → Inner P → (first : Bool) (fields : List Field) (xs : List Value) (text : List ℕ) → SpellsFields P first fields xs text → AllFit types xs (map (λ f. f.shape) fields)
+  fields_fit P inner first [] [] text h = fit_nil types
+  fields_fit P inner first [] (x ∷ xs) text h = absurd h
+  fields_fit P inner first (field ∷ fields) [] text h = absurd h
+  fields_fit P inner first (field ∷ fields) (x ∷ xs) text (lead, spelling, blanks, rest, whole, leads, spells, are, more) =
+      fit_cons types x xs field.shape (map (λ (f : Field). f.shape) fields) (inner field.shape x spelling spells) (fields_fit P inner false fields xs rest more)
+
+  -- what is spelled for the outermost part of a shape fits it, if what is inside does
+  layer_fits : (P : Form → Value → List ℕ → Type 0) → Inner P → (d : Shape-F Shape) (x : Value) (text : List ℕ) → SpellsForm P types (form_step (map-Shape Shape Form form_of d)) x text → Fit types x (roll-Shape d)
+  layer_fits P inner layer.Integer x text (number, is, spells) =
+      subst (Fit types x) (sym shape.rolls-Integer) (subst (λ v. Fit types v shape.Integer) (sym is) (integer_fits types number))
+  layer_fits P inner layer.Boolean x text h = absurd h
+  layer_fits P inner layer.Text x text (bytes, is, spells) =
+      subst (Fit types x) (sym shape.rolls-Text) (subst (λ v. Fit types v shape.Text) (sym is) (text_fits types bytes))
+  layer_fits P inner (layer.Sequence element) x text h = absurd h
+  layer_fits P inner (layer.Dictionary key item) x text h = absurd h
+  layer_fits P inner (layer.Event n) x text (event, xs, there, is, (before, behind, inside, whole, blanks, more, spells)) =
+      let fields = subst (λ (o : Option EventShape). AllFit types xs (map (λ f. f.shape) (fields_of o))) (sym there) (fields_fit P inner true event.fields xs inside spells) in
+      subst (Fit types x) (sym (shape.rolls-Event n)) (subst (λ v. Fit types v (shape.Event n)) (sym is) (event_made types n xs event fields there))
+  layer_fits P inner layer.Context x text h = absurd h
+  layer_fits P inner layer.Listener x text h = absurd h
+
+  -- what is spelled fits its shape, however deep it nests
+  within_fits : (depth : ℕ) → Inner (SpellsWithin depth types)
+  within_fits zero s x text h = absurd h
+  within_fits (suc depth) s x text h =
+      let opened = subst (λ (f : Form). SpellsForm (SpellsWithin depth types) types f x text) (fold_out-Shape Form form_step s) h in
+      subst (Fit types x) (roll-out-Shape s) (layer_fits (SpellsWithin depth types) (within_fits depth) (out-Shape s) x text opened)
+
+  -- what a text spells for a shape fits the shape
+  pub spelled_fits : (s : Shape) (x : Value) (spelling : List ℕ) → Spells types s x spelling → Fit types x s
+  spelled_fits s x spelling (depth, h) = within_fits depth s x spelling h
+
+module _ (program : Program) where
+  -- the item of a line fits, in front of items that do
+  line_fits : (line : List ℕ) (meant : Option Item) (items : List Item) → IsLine program.types line meant → ItemsFit program items → ItemsFit program (option_to_list meant ++ items)
+  line_fits line None items h a = a
+  line_fits line (Some (Event channel x)) items (short, text, blanks, rest, whole, are, (empty, (spelling, behind, cut, more, number, spells))) a =
+      All-cons (ItemFits program) (Event channel x) items (is_event_fits program.types x number (spelled_fits program.types (shape.Event number) x spelling spells)) a
+
+  -- the items of lines fit
+  lines_fit : (lines : List (List ℕ)) (meant : List (Option Item)) → AreLines program.types lines meant → ItemsFit program (flat_map option_to_list meant)
+  lines_fit [] [] h = All-nil (ItemFits program)
+  lines_fit [] (m ∷ ms) h = absurd h
+  lines_fit (l ∷ ls) [] h = absurd h
+  lines_fit (l ∷ ls) (m ∷ ms) h = line_fits l m (flat_map option_to_list ms) h.0 (lines_fit ls ms h.1)
+
+  -- the items of a file are events of the program's types
+  pub items_fit : (bytes : List ℕ) (items : List Item) → AreItems program.types bytes items → ItemsFit program items
+  items_fit bytes items (meant, lines, is) = subst (ItemsFit program) (sym is) (lines_fit (lines_of bytes) meant lines)
+
+-- the same of an answer
+pub gives_fit : (program : Program) (bytes : List ℕ) (items : List Item) → GivesItems program.types bytes (Ok items) → ItemsFit program items
+gives_fit program bytes items h = items_fit program bytes items h.0

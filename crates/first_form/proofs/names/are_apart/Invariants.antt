@@ -1,9 +1,0 @@
-use Rattle.std.proofs.Common.{◌≡◌, length}
-use Rattle.first_form.specs.Names.{are_apart}
-use Rattle.first_form.proofs.names.are_apart.Given as goal
-
-abbrev pub invariant-names : goal.invariant-names
-invariant-names l = are_apart l.left ≡ are_apart l.fn.names
-
-abbrev pub decreases-names : goal.decreases-names
-decreases-names l = length l.left
