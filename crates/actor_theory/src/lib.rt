@@ -11,5 +11,3 @@ pub use laws::{
     schedule_makes_one, scheduled_is_faithful, work_keeps,
 };
 
-#[cfg(test)]
-mod tests;

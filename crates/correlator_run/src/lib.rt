@@ -9,5 +9,3 @@ mod top;
 pub use refusal::Refusal;
 pub use top::{Outcome, correlate_serial};
 
-#[cfg(test)]
-mod tests;

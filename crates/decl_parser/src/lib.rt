@@ -18,8 +18,6 @@ mod program;
 mod region;
 mod rules;
 mod stmt;
-#[cfg(test)]
-mod tests;
 mod word;
 
 pub use expr_parser::ParseFault;

@@ -10,8 +10,6 @@ mod quoted;
 mod sign;
 mod space;
 mod table;
-#[cfg(test)]
-mod tests;
 mod token;
 mod word;
 

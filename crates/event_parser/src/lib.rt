@@ -11,8 +11,6 @@ mod range;
 mod rules;
 mod template;
 mod test;
-#[cfg(test)]
-mod tests;
 mod word;
 
 pub use expr_parser::ParseFault;

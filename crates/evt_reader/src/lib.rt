@@ -5,8 +5,6 @@ mod fault;
 mod lines;
 mod meaning;
 mod reading;
-#[cfg(test)]
-mod tests;
 
 pub use fault::LineFault;
 pub use reading::items;

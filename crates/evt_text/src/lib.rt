@@ -6,8 +6,6 @@ mod numbers;
 mod parts;
 mod reading;
 mod scanner;
-#[cfg(test)]
-mod tests;
 mod values;
 
 pub use fault::TextFault;

@@ -10,8 +10,6 @@ mod part;
 mod postfix;
 mod primary;
 mod rules;
-#[cfg(test)]
-mod tests;
 pub mod token;
 mod types;
 mod word;

@@ -25,5 +25,3 @@ pub use stream_sink::StreamSink;
 pub use traits::{Found, Got, Put, Shelf, Sink, Source};
 pub use whole::{FileFault, WriteFault, put_all, read_whole};
 
-#[cfg(test)]
-mod tests;

@@ -7,5 +7,3 @@ mod program;
 pub use fault::ProgramFault;
 pub use program::program_from;
 
-#[cfg(test)]
-mod tests;

@@ -4,8 +4,6 @@
 mod laws;
 mod lines;
 mod spot;
-#[cfg(test)]
-mod tests;
 
 pub use laws::{lines_are_few, no_line_where_nothing_is};
 pub use lines::{TextLines, lines_of};

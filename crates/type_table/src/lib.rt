@@ -26,5 +26,3 @@ pub use table::{
 pub use types::{holds_link, is_reference, is_scalar, shape_of, short};
 pub use whole::gather;
 
-#[cfg(test)]
-mod tests;

@@ -6,8 +6,6 @@ mod defaults;
 mod laws;
 mod orders;
 mod shapes;
-#[cfg(test)]
-mod tests;
 mod texts;
 
 pub use costs::cost;

@@ -10,8 +10,6 @@ mod laws;
 mod parts;
 mod reading;
 mod spawning;
-#[cfg(test)]
-mod tests;
 mod texts;
 mod trouble;
 
