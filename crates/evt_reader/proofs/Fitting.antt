@@ -11,14 +11,14 @@ use Rattle.epl_values.specs.declared.shape.Field.{Field}
 use Rattle.epl_values.specs.declared.shape.EventShape.{EventShape}
 use Rattle.epl_values.specs.declared.value.Value.{Value}
 use Rattle.typed_program.specs.declared.program.Program.{Program}
-use Rattle.value_rules.specs.Types.{fields_of}
+use Rattle.event_types.specs.Types.{fields_of}
 use Rattle.value_shapes.specs.Fits.{Fit, AllFit}
 use Rattle.value_shapes.proofs.Lists.{fit_nil, fit_cons}
 use Rattle.value_shapes.proofs.Made.{event_made, integer_fits, is_event_fits, text_fits}
 use Rattle.naive_meaning.specs.declared.entry.Item.{Item}
 use Rattle.naive_meaning.specs.declared.entry.Item.TheVariants.{Event}
 use Rattle.naive_meaning.specs.Fits.{ItemFits, ItemsFit}
-use Rattle.evt_text.specs.Forms.{Form, form_of, form_step}
+use Rattle.event_types.specs.Types.{Form, form_of, form_step}
 use Rattle.evt_text.specs.Spelling.{Spells, SpellsFields, SpellsForm, SpellsWithin}
 use Rattle.evt_reader.specs.Files.{AreItems, AreLines, GivesItems, IsLine, lines_of}
 

@@ -4,7 +4,7 @@ use Rattle.std.proofs.lemmas.Bool.{cases_eq}
 use Rattle.std.proofs.lemmas.Option.{same_Some}
 use Rattle.epl_values.specs.declared.shape.EventShape.{EventShape}
 use Rattle.epl_values.specs.declared.shape.Shape.TheVariants.{Event}
-use Rattle.evt_text.specs.Forms.{form_of, types_in, AreTypes}
+use Rattle.event_types.specs.Types.{form_of, types_in, AreTypes}
 use Rattle.evt_text.proofs.Nesting.{form_of-event}
 use Rattle.evt_text.proofs.Events.{get-below}
 use Rattle.evt_reader.specs.Steps.{HasName, LacksName}

@@ -6,12 +6,13 @@ use Rattle.std.proofs.lemmas.Option.{none-some}
 use Rattle.epl_values.specs.declared.shape.EventShape.{EventShape}
 use Rattle.epl_values.specs.declared.shape.Shape.TheVariants.{Event}
 use Rattle.epl_values.specs.declared.value.Value.{Value}
-use Rattle.evt_text.specs.Forms.{EventForm, is_letter, is_digit, HasNames, HasKnownFields, HasNoCycle}
+use Rattle.evt_text.specs.Forms.{is_letter, is_digit, HasNames}
+use Rattle.event_types.specs.Types.{EventForm, HasKnownFields, HasNoCycle}
 use Rattle.evt_text.specs.Spelling.{AreBlanks, SpellsWithin, Spells}
 use Rattle.evt_text.specs.Reading.{value_from}
 use Rattle.evt_text.proofs.Cases.{pair-some}
 use Rattle.evt_text.proofs.Nesting.{form_of-event}
-use Rattle.evt_text.proofs.Depths.{deep-enough}
+use Rattle.event_types.proofs.Depths.{deep-enough_one as deep-enough}
 use Rattle.evt_text.proofs.Renested.{event-whole}
 
 pub get-below : (types : List EventShape) (n : ℕ) (event : EventShape) → slice_get types n ≡ Some event → n < length types

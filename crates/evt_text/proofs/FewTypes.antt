@@ -4,8 +4,9 @@ use Rattle.std.specs.List.{AllByRecursion, flat_map}
 use Rattle.std.proofs.lemmas.Option.{none-some}
 use Rattle.epl_values.specs.declared.shape.Field.{Field}
 use Rattle.epl_values.specs.declared.shape.EventShape.{EventShape}
-use Rattle.evt_text.proofs.Depths.{none-known, none-cycle}
-use Rattle.evt_text.specs.Forms.{form_of, types_in, types_held, IsAmong, IsName, HasDistinctNames, HasNoCycle, AreEventTypes}
+use Rattle.event_types.proofs.Depths.{none-known, none-cycle}
+use Rattle.evt_text.specs.Forms.{IsName, AreEventTypes}
+use Rattle.event_types.specs.Types.{form_of, types_in, types_held, IsAmong, HasDistinctNames, HasNoCycle}
 
 abbrev pub ArePlain : List Field → Type 0
 ArePlain fields = AllByRecursion (λ f. types_in (form_of f.shape) ≡ []) fields

@@ -10,14 +10,15 @@ use Rattle.std.proofs.lemmas.Option.{none-some}
 use Rattle.epl_values.specs.declared.shape.Shape.{Shape}
 use Rattle.epl_values.specs.declared.shape.EventShape.{EventShape}
 use Rattle.epl_values.specs.declared.value.Value.{Value}
-use Rattle.evt_text.specs.Forms.{form_of, types_in, AreTypes, HasNames, HasKnownFields, HasNoCycle}
+use Rattle.evt_text.specs.Forms.{HasNames}
+use Rattle.event_types.specs.Types.{form_of, types_in, AreTypes, HasKnownFields, HasNoCycle}
 use Rattle.evt_text.specs.Spelling.{SpellsAt, FindsValue}
 use Rattle.evt_text.specs.Reading.{Reads, value_from}
 use Rattle.evt_text.specs.declared.fault.TextFault.{TextFault}
 use Rattle.evt_text.specs.declared.fault.TextFault.TheVariants.{NoValue, Memory}
 use Rattle.evt_text.proofs.Cases.{pair-some}
 use Rattle.evt_text.proofs.Nested.{value-read}
-use Rattle.evt_text.proofs.Depths.{deep-enough}
+use Rattle.event_types.proofs.Depths.{deep-enough_one as deep-enough}
 use Rattle.evt_text.proofs.Renested.{Opens, Covers, value-opens, value-covers}
 
 -- each spelling at a place is covered by what is read there

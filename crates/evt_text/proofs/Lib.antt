@@ -1,5 +1,4 @@
 pub mod Cases
-pub mod Depths
 pub mod Digits
 pub mod Events
 pub mod FewTypes

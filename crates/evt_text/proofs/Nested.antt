@@ -6,7 +6,7 @@ use Rattle.epl_values.specs.declared.shape.Field.{Field}
 use Rattle.epl_values.specs.declared.shape.EventShape.{EventShape}
 use Rattle.epl_values.specs.declared.value.Value.{Value}
 use Rattle.epl_values.specs.declared.value.Value.TheVariants as value
-use Rattle.evt_text.specs.Forms.{Form, IntegerForm, BooleanForm, TextForm, SequenceForm, DictionaryForm, EventForm, ContextForm, ListenerForm, form_of}
+use Rattle.event_types.specs.Types.{Form, IntegerForm, BooleanForm, TextForm, SequenceForm, DictionaryForm, EventForm, ContextForm, ListenerForm, form_of}
 use Rattle.evt_text.specs.Spelling.{AreBlanks, IsLead, SpellsFields, SpellsEvent, SpellsForm, SpellsWithin}
 use Rattle.evt_text.specs.Reading.{◌>>=◌, with_front, behind_sign, behind_name, behind_blanks, behind_lead, integer_at, string_at, field_at, fields_from, event_at, typed_at, form_at, value_from}
 use Rattle.evt_text.proofs.Cases.{bind-some, map-some, pair-some}

@@ -5,7 +5,7 @@ use Rattle.epl_values.specs.declared.shape.Shape.{Shape, the_lemmas}
 use Rattle.epl_values.specs.declared.shape.Shape.TheVariants.{Event}
 use Rattle.epl_values.specs.declared.value.Value.{Value}
 use Rattle.std.proofs.lemmas.Option.{slice_get_past}
-use Rattle.evt_text.specs.Forms.{Form, EventForm, form_of}
+use Rattle.event_types.specs.Types.{Form, EventForm, form_of}
 use Rattle.evt_text.specs.Reading.{form_at, value_from}
 
 pub value_from-zero : (depth : ℕ) (types : List EventShape) (form : Form) (text : List ℕ) → depth ≡ 0 → value_from depth types form text ≡ None

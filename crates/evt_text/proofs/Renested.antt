@@ -9,13 +9,14 @@ use Rattle.epl_values.specs.declared.shape.Field.{Field}
 use Rattle.epl_values.specs.declared.shape.EventShape.{EventShape}
 use Rattle.epl_values.specs.declared.value.Value.{Value}
 use Rattle.epl_values.specs.declared.value.Value.TheVariants as value
-use Rattle.evt_text.specs.Forms.{Form, IntegerForm, BooleanForm, TextForm, SequenceForm, DictionaryForm, EventForm, ContextForm, ListenerForm, form_of, types_in, types_held, is_letter, is_digit, IsName, HasNames}
+use Rattle.evt_text.specs.Forms.{is_letter, is_digit, IsName, HasNames}
+use Rattle.event_types.specs.Types.{Form, IntegerForm, BooleanForm, TextForm, SequenceForm, DictionaryForm, EventForm, ContextForm, ListenerForm, form_of, types_in, types_held}
 use Rattle.evt_text.specs.Spelling.{AreBlanks, is_blank, IsLead, SpellsInteger, SpellsFields, SpellsEvent, SpellsWithin}
 use Rattle.evt_text.specs.Reading.{behind_blanks, behind_lead, integer_at, string_at, field_at, fields_from, event_at, form_at, value_from}
 use Rattle.evt_text.proofs.Fronts.{behind_name-at}
 use Rattle.evt_text.proofs.Respelled.{EndsNumber, integer-again, integer-covers, string-again, blanks-again}
 use Rattle.evt_text.proofs.Nested.{Reader, Speller}
-use Rattle.evt_text.proofs.Depths.{Enough, fields-enough}
+use Rattle.event_types.proofs.Depths.{Enough, fields-enough}
 
 -- the first byte is below 128 and no blank
 abbrev pub Opens : List ℕ → Type 0

@@ -7,7 +7,7 @@ use Rattle.epl_values.specs.declared.shape.Field.{Field}
 use Rattle.epl_values.specs.declared.shape.EventShape.{EventShape}
 use Rattle.epl_values.specs.declared.value.Value.{Value}
 use Rattle.epl_values.specs.declared.value.Value.TheVariants as value
-use Rattle.evt_text.specs.Forms.{Form, IntegerForm, TextForm, EventForm, form_of}
+use Rattle.event_types.specs.Types.{Form, IntegerForm, TextForm, EventForm, form_of}
 use Rattle.evt_text.specs.declared.fault.TextFault.{TextFault}
 use Rattle.evt_text.specs.declared.fault.TextFault.TheVariants as fault
 

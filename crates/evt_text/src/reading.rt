@@ -1,5 +1,6 @@
 ghost use Rattle.std.specs.Prelude.{◌≤◌, length};
-ghost use Rattle.evt_text.specs.Forms.{form_of, types_in, AreTypes, HasNames, HasKnownFields, HasNoCycle};
+ghost use Rattle.evt_text.specs.Forms.{HasNames};
+ghost use Rattle.event_types.specs.Types.{form_of, types_in, AreTypes, HasKnownFields, HasNoCycle};
 ghost use Rattle.evt_text.specs.Spelling.{FindsValue};
 
 use crate::TextFault;

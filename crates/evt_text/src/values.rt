@@ -1,5 +1,5 @@
 ghost use Rattle.std.specs.Prelude.{true};
-ghost use Rattle.evt_text.specs.Forms.{form_of};
+ghost use Rattle.event_types.specs.Types.{form_of};
 ghost use Rattle.evt_text.specs.Reading.{Reads, Passes, behind_lead, field_at, fields_from, event_at, form_at, value_from};
 
 use crate::TextFault;

@@ -9,7 +9,7 @@ use Rattle.epl_values.specs.declared.shape.EventShape.{EventShape}
 use Rattle.epl_values.specs.declared.value.Value.{Value}
 use Rattle.epl_values.specs.declared.value.Value.TheVariants as value
 use Rattle.epl_tree.specs.declared.expression.Comparison.{Comparison}
-use Rattle.value_rules.specs.Types.{fields_of}
+use Rattle.event_types.specs.Types.{fields_of}
 use Rattle.value_rules.specs.Defaults.{default_step, default_by, default_event, default_of}
 use Rattle.action_host.specs.declared.host.Fault.{Fault}
 use Rattle.action_host.specs.declared.host.Effect.{Effect}

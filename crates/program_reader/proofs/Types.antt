@@ -1,5 +1,5 @@
 -- The event types of a typed program whose names are spelled as names can be read in event files.
-use Rattle.std.proofs.Common.{◌≡◌, ℕ, zero, suc, ◌+◌, ◌<◌, ◌≤◌, List, [], ◌∷◌, ◌++◌, map, length, flat_map, Bool, true, false, ◌&&◌, not, Option, Some, None, refl, sym, ◌∙◌, ap, subst, arith, inl, inr, if◌then◌else◌}
+use Rattle.std.proofs.Common.{◌≡◌, ℕ, zero, suc, ◌+◌, ◌<◌, ◌≤◌, List, [], ◌∷◌, ◌++◌, map, length, flat_map, Bool, true, false, ◌&&◌, not, Option, refl, sym, ◌∙◌, ap, subst, arith}
 use Rattle.std.specs.Prelude.{nat_le}
 use Rattle.std.specs.List.{AllByRecursion, list_all, slice_get}
 use Rattle.std.proofs.lemmas.Bool.{and_parts, ltb-true, leb-true}
@@ -10,8 +10,8 @@ use Rattle.epl_values.specs.declared.shape.EventShape.{EventShape}
 use Rattle.epl_tree.specs.declared.unit.Declaration.{Declaration}
 use Rattle.epl_tree.specs.declared.unit.Declaration.TheVariants as declaration
 use Rattle.epl_tree.specs.declared.unit.EventDecl.{EventDecl}
-use Rattle.value_rules.specs.Types as value
-use Rattle.evt_text.specs.Forms.{Form, form_step, form_of, types_in, fields_of, types_held, IsAmong, AreTypes, HasKnownFields, Holds, IsName, HasNames, AreEventTypes}
+use Rattle.evt_text.specs.Forms.{IsName, HasNames, AreEventTypes}
+use Rattle.event_types.specs.Types.{Form, form_step, form_of, types_in, fields_of, AreTypes, HasKnownFields}
 use Rattle.typed_program.specs.declared.program.Program.{Program}
 use Rattle.typed_program.specs.Shapes.{Standing, holds_link, standing_step, stands}
 use Rattle.typed_program.specs.Limits.{are_narrow, has_few_params, within_limits}
@@ -80,58 +80,6 @@ module _ (types : List EventShape) where
 known_fields : (program : Program) → Typed program → HasKnownFields program.types
 known_fields program typed n = fields_known program.types (fields_of (slice_get program.types n)) (at_fields program.types program.types n typed.shapes.types)
 
--- ---- a type that contains itself does so for values too
-
-abbrev Agrees : Shape → Type 0
-Agrees s = types_in (form_of s) ≡ value.types_in (value.form_of s)
-
-abbrev Agreeing : Type 0
-Agreeing = (s : Shape) × Agrees s
-
-abbrev agreed : Shape-F Agreeing → Shape-F Shape
-agreed y = map-Shape Agreeing Shape (λ e. e.0) y
-
-layer_agrees : (y : Shape-F Agreeing) → types_in (form_step (map-Shape Shape Form form_of (agreed y))) ≡ value.types_in (value.form_step (map-Shape Shape value.Form value.form_of (agreed y)))
-layer_agrees layer.Integer = refl
-layer_agrees layer.Boolean = refl
-layer_agrees layer.Text = refl
-layer_agrees (layer.Sequence item) = item.1
-layer_agrees (layer.Dictionary key item) = ap (λ (ns : List ℕ). ns ++ types_in (form_of item.0)) key.1 ∙ ap (λ (ns : List ℕ). value.types_in (value.form_of key.0) ++ ns) item.1
-layer_agrees (layer.Event n) = refl
-layer_agrees layer.Context = refl
-layer_agrees layer.Listener = refl
-
-agrees_case : (x : Shape-F Shape) (y : Shape-F Agreeing) → agreed y ≡ x → Agrees (roll-Shape x)
-agrees_case x y is = subst (λ (z : Shape-F Shape). Agrees (roll-Shape z)) is (
-    ap (λ (f : Form). types_in f) (fold-roll-Shape Form form_step (agreed y))
-    ∙ layer_agrees y
-    ∙ sym (ap (λ (f : value.Form). value.types_in f) (fold-roll-Shape value.Form value.form_step (agreed y))))
-
-shape_agrees : (s : Shape) → Agrees s
-shape_agrees = ind-Shape Agrees agrees_case
-
-fields_agree : (fields : List Field) → flat_map (λ f. types_in (form_of f.shape)) fields ≡ flat_map (λ f. value.types_in (value.form_of f.shape)) fields
-fields_agree [] = refl
-fields_agree (f ∷ fs) =
-    ap (λ (ns : List ℕ). ns ++ flat_map (λ (g : Field). types_in (form_of g.shape)) fs) (shape_agrees f.shape)
-    ∙ ap (λ (ns : List ℕ). value.types_in (value.form_of f.shape) ++ ns) (fields_agree fs)
-
-held_at : (o : Option EventShape) → flat_map (λ (f : Field). types_in (form_of f.shape)) (fields_of o) ≡ flat_map (λ (f : Field). value.types_in (value.form_of f.shape)) (value.fields_of o)
-held_at None = refl
-held_at (Some e) = fields_agree e.fields
-
-among : (n : ℕ) (ns : List ℕ) → IsAmong n ns → value.IsAmong n ns
-among n [] h = h
-among n (m ∷ ms) (inl e) = inl e
-among n (m ∷ ms) (inr h) = inr (among n ms h)
-
-among_held : (types : List EventShape) (n m : ℕ) → IsAmong m (types_held types n) → value.IsAmong m (value.types_held types n)
-among_held types n m h = subst (λ (ns : List ℕ). value.IsAmong m ns) (held_at (slice_get types n)) (among m (types_held types n) h)
-
-holds : (types : List EventShape) (depth n m : ℕ) → Holds types depth n m → value.Holds types depth n m
-holds types zero n m h = among_held types n m h
-holds types (suc depth) n m h = (h.0, among_held types n h.0 h.1, holds types depth h.0 m h.2)
-
 -- ---- names
 
 abbrev AreNamed : List EventDecl → Type 0
@@ -191,5 +139,5 @@ are_event_types program typed named =
       names = named;
       distinct = typed.distinct;
       fields = known_fields program typed;
-      no_cycle = λ depth n h. typed.no_cycle depth n (holds program.types depth n n h);
+      no_cycle = typed.no_cycle;
     }

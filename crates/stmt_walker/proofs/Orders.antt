@@ -11,7 +11,7 @@ use Rattle.epl_values.specs.declared.value.Value.TheVariants as value
 use Rattle.epl_values.specs.declared.value.Pair.{Pair}
 use Rattle.typed_program.specs.declared.term.Term.{Term}
 use Rattle.value_rules.specs.Defaults.{default_step, default_by, default_event, default_of}
-use Rattle.value_rules.specs.Types.{fields_of}
+use Rattle.event_types.specs.Types.{fields_of}
 use Rattle.action_host.specs.declared.host.Answer.TheVariants as answer
 use Rattle.action_host.specs.declared.host.Effect.{Effect}
 use Rattle.action_host.specs.declared.host.Effect.TheVariants as effect

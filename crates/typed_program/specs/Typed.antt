@@ -1,15 +1,10 @@
 -- Typed programs: what each layer below the checker may count on.
-use Rattle.std.specs.Prelude.{ℕ, ◌≡◌, Bool, true, List, map, Option, Some, slice_get}
+use Rattle.std.specs.Prelude.{◌≡◌, true}
 use Rattle.typed_program.specs.declared.program.Program.{Program}
-use Rattle.epl_values.specs.declared.shape.EventShape.{EventShape}
-use Rattle.value_rules.specs.Types.{HasNoCycle}
+use Rattle.event_types.specs.Types.{HasDistinctNames, HasNoCycle}
 use Rattle.typed_program.specs.Programs.{HasShapes}
 use Rattle.typed_program.specs.Rules.{KeepsRules}
 use Rattle.typed_program.specs.Limits.{within_limits}
-
--- no two event types have one name
-abbrev pub HasDistinctNames : List EventShape → Type 0
-HasDistinctNames types = (i j : ℕ) (a b : EventShape) → slice_get types i ≡ Some a → slice_get types j ≡ Some b → a.name ≡ b.name → i ≡ j
 
 -- numbers name what is there, and expressions, locals and globals have their shapes; names, paths, changes, ends and event
 -- expressions keep the rules; event types have different names, and none contains itself; the limits hold

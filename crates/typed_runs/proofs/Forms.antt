@@ -18,7 +18,7 @@ use Rattle.typed_program.specs.declared.program.Action.{Action}
 use Rattle.typed_program.specs.declared.statement.Variable.{Variable}
 use Rattle.typed_program.specs.Shapes.{same, stands}
 use Rattle.typed_program.specs.Expressions.{Checked, Linked, Paired, Stepping, if_known, is_of, all_of, are_of, agrees, may_compare, compares, links, is_add, truths, walks, calls, makes, sequence_so, dictionary_so, gives, may_stand}
-use Rattle.value_rules.specs.Types.{fields_of}
+use Rattle.event_types.specs.Types.{fields_of}
 use Rattle.value_rules.specs.Defaults.{default_of}
 use Rattle.body_meaning.specs.Runs.{M, ◌>>=◌, pure, given, choose, all, two}
 use Rattle.body_meaning.specs.Values.{is_text, is_text_in, truth_of, negated, compared}

@@ -16,7 +16,7 @@ use Rattle.typed_program.specs.declared.expression.Method.TheVariants as method
 use Rattle.typed_program.specs.Shapes.{same}
 use Rattle.typed_program.specs.Methods.{Signature, signature}
 use Rattle.typed_program.specs.Expressions.{Checked, Stepping, if_known, is_of, are_of, agrees, walks, field_shape, shape_in, fields_at, field_leads, item_leads, key_leads, method_leads}
-use Rattle.value_rules.specs.Types.{fields_of}
+use Rattle.event_types.specs.Types.{fields_of}
 use Rattle.body_meaning.specs.declared.run.Move.{Move}
 use Rattle.body_meaning.specs.declared.run.Move.TheVariants as move
 use Rattle.body_meaning.specs.Runs.{M, ◌>>=◌, pure, given, all}

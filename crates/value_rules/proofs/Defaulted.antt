@@ -9,10 +9,10 @@ use Rattle.epl_values.specs.declared.shape.Field.{Field}
 use Rattle.epl_values.specs.declared.shape.EventShape.{EventShape}
 use Rattle.epl_values.specs.declared.value.Value.{Value}
 use Rattle.epl_values.specs.declared.value.Value.TheOpen as part
-use Rattle.value_rules.specs.Types.{Form, form_step, form_of, types_in, types_held, fields_of, AreTypes, HasKnownFields, HasNoCycle}
+use Rattle.event_types.specs.Types.{Form, form_step, form_of, types_in, types_held, fields_of, AreTypes, HasKnownFields, HasNoCycle}
 use Rattle.value_rules.specs.Defaults.{default_step, default_by, default_event, default_of}
 use Rattle.value_rules.specs.Shapes.{all_fit, event_fits, fits, has}
-use Rattle.value_rules.proofs.Depths.{Enough, deep-enough, fields-enough, fields-known}
+use Rattle.event_types.proofs.Depths.{Enough, deep-enough, fields-enough, fields-known}
 use Rattle.value_rules.proofs.Having.{has-integer, has-boolean, has-text, has-sequence, has-dictionary, has-event, has-no_context, has-listener}
 
 default-by : (event : ℕ → Value) (s : Shape) (l : Shape-F Shape) → out-Shape s ≡ l → default_by event s ≡ default_step event (map-Shape Shape Value (default_by event) l)

@@ -1,5 +1,4 @@
 pub mod Defaulted
-pub mod Depths
 pub mod Escapes
 pub mod Having
 pub mod Shaped

@@ -5,7 +5,7 @@ use Rattle.epl_values.specs.declared.shape.Shape.TheOpen as layer
 use Rattle.epl_values.specs.declared.shape.EventShape.{EventShape}
 use Rattle.epl_values.specs.declared.value.Value.{Value}
 use Rattle.epl_values.specs.declared.value.Value.TheVariants as value
-use Rattle.value_rules.specs.Types.{fields_of}
+use Rattle.event_types.specs.Types.{fields_of}
 
 -- 0, false, empty texts and collections, no context, the empty listener, and what events give
 abbrev pub default_step : (ℕ → Value) → Shape-F Value → Value

@@ -2,4 +2,3 @@ pub mod Costs
 pub mod Defaults
 pub mod Shapes
 pub mod Texts
-pub mod Types

@@ -1,6 +1,6 @@
 ghost use Rattle.std.specs.Prelude.{◌≡◌, map, slice_get, IfOk};
 ghost use Rattle.value_rules.specs.Defaults.{default_by, default_event, default_of};
-ghost use Rattle.value_rules.specs.Types.{fields_of};
+ghost use Rattle.event_types.specs.Types.{fields_of};
 
 use epl_values::{EventShapes, Field, List, Ordered, Shape, Text, Value, Values};
 use std::alloc::{AllocError, Global};

@@ -4,7 +4,7 @@ ghost use Rattle.epl_values.specs.declared.shape.Shape.{Shape};
 ghost use Rattle.epl_values.specs.declared.value.Value.{Value};
 ghost use Rattle.value_rules.specs.Defaults.{default_of};
 ghost use Rattle.value_rules.specs.Shapes.{has, shapes_have};
-ghost use Rattle.value_rules.specs.Types.{form_of, types_in, AreTypes, HasKnownFields, HasNoCycle};
+ghost use Rattle.event_types.specs.Types.{form_of, types_in, AreTypes, HasKnownFields, HasNoCycle};
 
 /// The default of a shape has that shape, where each event type that is named is there and none contains itself.
 /// A shape without event types asks nothing of them.

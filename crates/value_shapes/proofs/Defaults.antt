@@ -11,7 +11,7 @@ use Rattle.typed_program.specs.declared.program.Program.{Program}
 use Rattle.typed_program.specs.Shapes.{Standing, holds_link, standing_step, stands}
 use Rattle.typed_program.specs.Typed.{Typed}
 use Rattle.value_rules.specs.Defaults.{default_by, default_event, default_of, default_step}
-use Rattle.value_rules.specs.Types.{AreTypes, Form, HasKnownFields, fields_of, form_of, form_step, types_in}
+use Rattle.event_types.specs.Types.{AreTypes, Form, HasKnownFields, fields_of, form_of, form_step, types_in}
 use Rattle.value_rules.proofs.Defaulted.{default_has}
 use Rattle.value_steps.specs.Orderly.{AreOrderly, IsOrderly}
 use Rattle.value_steps.proofs.Called.{dictionary_orderly, event_orderly, integer_orderly, listener_orderly, none_orderly, sequence_orderly, text_orderly, truth_orderly}

@@ -11,7 +11,7 @@ use Rattle.epl_values.specs.declared.value.Value.TheOpen as layer
 use Rattle.epl_values.specs.declared.value.Pair.{Pair}
 use Rattle.epl_values.specs.Order.{KeysAscend}
 use Rattle.value_rules.specs.Shapes.{Fit as Test, PairFit, all_fit, event_fits, fits, has, pair_fits, pair_has}
-use Rattle.value_rules.specs.Types.{fields_of}
+use Rattle.event_types.specs.Types.{fields_of}
 use Rattle.value_rules.proofs.Having.{pair-has}
 use Rattle.value_steps.specs.Orderly.{AreOrderly, AreOrderlyPairs, KeysInOrder}
 use Rattle.value_steps.proofs.Parted.{PartsInOrder, keys_orderly, orderly_made, parts_orderly}

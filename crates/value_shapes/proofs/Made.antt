@@ -11,7 +11,7 @@ use Rattle.epl_values.specs.declared.value.Value.TheOpen as layer
 use Rattle.epl_values.specs.declared.value.Value.TheVariants as value
 use Rattle.epl_values.specs.declared.value.Pair.{Pair}
 use Rattle.epl_values.specs.Order.{KeysAscend}
-use Rattle.value_rules.specs.Types.{fields_of}
+use Rattle.event_types.specs.Types.{fields_of}
 use Rattle.body_meaning.specs.Values.{items_in, items_of, pairs_in, pairs_of, fields_in}
 use Rattle.value_shapes.specs.Fits.{Fit, AllFit, IsEvent}
 use Rattle.value_shapes.proofs.Layers.{EachFit, EntriesFit, LayerFits, dictionary_layer, event_known, event_layer, event_number, fit_out, fit_rolled, layer_dictionary, layer_event, layer_sequence, sequence_layer}

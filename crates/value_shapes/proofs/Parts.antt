@@ -16,7 +16,7 @@ use Rattle.body_meaning.specs.declared.run.Move.{Move}
 use Rattle.body_meaning.specs.declared.run.Move.TheVariants as move
 use Rattle.body_meaning.specs.Values.{natural}
 use Rattle.body_meaning.specs.Paths.{at_key, entry_value, is_key, or_fault, part, part_in, set_at, with_entry, with_part, with_part_in}
-use Rattle.value_rules.specs.Types.{fields_of}
+use Rattle.event_types.specs.Types.{fields_of}
 use Rattle.value_steps.proofs.Kept.{all_get, all_set}
 use Rattle.value_shapes.specs.Fits.{Fit, StepsTo}
 use Rattle.value_shapes.proofs.Entries.{entry_fits}

@@ -13,7 +13,7 @@ use Rattle.epl_tree.specs.declared.types.TypeNode.TheOpen.{TypeNode-F}
 use Rattle.epl_tree.specs.declared.types.TypeNode.TheOpen as node
 use Rattle.epl_tree.specs.declared.types.TypeNode.TheViews.{roll-TypeNode, roll-TypeExpr}
 use Rattle.epl_tree.specs.declared.types.TypeNode.TheFolds.{fold-TypeNode, fold-roll-TypeNode, fold-roll-TypeExpr, ind-TypeExpr, map-TypeNode}
-use Rattle.value_rules.specs.Types.{Form, IntegerForm, BooleanForm, TextForm, SequenceForm, DictionaryForm, EventForm, ContextForm, ListenerForm, form_step, form_of, types_in, IsAmong}
+use Rattle.event_types.specs.Types.{Form, IntegerForm, BooleanForm, TextForm, SequenceForm, DictionaryForm, EventForm, ContextForm, ListenerForm, form_step, form_of, types_in, IsAmong}
 use Rattle.type_table.specs.Chains.{met, met_node, met_step}
 use Rattle.type_table.specs.Found.{Found}
 use Rattle.type_table.specs.Types.{Written, event_shape as found_shape, node_found, written_step, written_of, type_by}

@@ -12,7 +12,7 @@ use Rattle.epl_values.specs.declared.shape.EventShape.{EventShape}
 use Rattle.epl_values.specs.declared.shape.Field.{Field}
 use Rattle.epl_tree.specs.declared.unit.EventDecl.{EventDecl}
 use Rattle.epl_tree.specs.declared.unit.FieldDecl.{FieldDecl}
-use Rattle.value_rules.specs.Types.{form_of, types_in, types_held, fields_of, IsAmong, Holds, HasNoCycle}
+use Rattle.event_types.specs.Types.{form_of, types_in, types_held, fields_of, IsAmong, Holds, HasNoCycle}
 use Rattle.type_table.specs.Chains.{met, at_event, any_field, leads}
 use Rattle.type_table.specs.Gathers.{numbers, event_shape, field_shape}
 use Rattle.type_table.specs.Kinds.{names_of, found_at}

@@ -8,10 +8,10 @@ use Rattle.std.proofs.lemmas.Bool.{le-leb}
 use Rattle.epl_values.specs.declared.shape.EventShape.{EventShape}
 use Rattle.epl_tree.specs.declared.unit.EventDecl.{EventDecl}
 use Rattle.epl_tree.specs.declared.unit.Unit.{Unit as File}
-use Rattle.value_rules.specs.Types.{HasNoCycle}
+use Rattle.event_types.specs.Types.{HasNoCycle}
 use Rattle.typed_program.specs.declared.program.Program.{Program}
 use Rattle.typed_program.specs.Limits.{are_narrow, has_few_params, within_limits}
-use Rattle.typed_program.specs.Typed.{HasDistinctNames}
+use Rattle.event_types.specs.Types.{HasDistinctNames}
 use Rattle.type_table.proofs.Filed.{shapes_named}
 use Rattle.type_table.specs.Gathers.{event_shape, numbers}
 use Rattle.type_table.specs.Kinds.{kinds_of, names_of}

@@ -69,3 +69,7 @@ Holds types (suc depth) n m = (k : ℕ) × IsAmong k (types_held types n) × Hol
 -- no event type contains itself at any depth
 abbrev pub HasNoCycle : List EventShape → Type 0
 HasNoCycle types = (depth n : ℕ) → Holds types depth n n → ⊥
+
+-- no two types have the same name
+abbrev pub HasDistinctNames : List EventShape → Type 0
+HasDistinctNames types = (i j : ℕ) (a b : EventShape) → slice_get types i ≡ Some a → slice_get types j ≡ Some b → a.name ≡ b.name → i ≡ j

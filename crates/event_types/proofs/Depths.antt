@@ -1,11 +1,11 @@
 -- How deep event types nest, where none contains itself.
-use Rattle.std.proofs.Common.{◌≡◌, ℕ, zero, suc, ◌+◌, ◌<◌, List, [], ◌∷◌, ◌++◌, length, true, false, sym, arith, inl, inr, eqb}
+use Rattle.std.proofs.Common.{◌≡◌, ℕ, zero, suc, ◌+◌, ◌<◌, List, [], ◌∷◌, ◌++◌, length, true, false, sym, arith, inl, inr, eqb, add-one}
 use Rattle.std.specs.List.{AllByRecursion, IsDistinct, flat_map, list_any}
 use Rattle.std.proofs.lemmas.Bool.{ne_eqb, eqb-true, or_cases, false≢true}
 use Rattle.std.proofs.lemmas.Map.Steps.{length-le_from_distinct_below}
 use Rattle.epl_values.specs.declared.shape.Field.{Field}
 use Rattle.epl_values.specs.declared.shape.EventShape.{EventShape}
-use Rattle.value_rules.specs.Types.{form_of, types_in, types_held, IsAmong, AreTypes, HasKnownFields, Holds, HasNoCycle}
+use Rattle.event_types.specs.Types.{form_of, types_in, types_held, IsAmong, AreTypes, HasKnownFields, Holds, HasNoCycle}
 
 -- these event types nest fewer than so many deep
 abbrev pub Enough : ℕ → List EventShape → List ℕ → Type 0
@@ -81,6 +81,10 @@ fields-enough depth types (f ∷ fs) e =
 pub deep-enough : (types : List EventShape) (ns : List ℕ) → HasKnownFields types → HasNoCycle types → AreTypes types ns → Enough (suc (length types)) types ns
 deep-enough types ns known none are = enough types known none (suc (length types)) [] ns (omega arith) distinct-none tt tt are
 
+-- the same, where the count is written the other way
+pub deep-enough_one : (types : List EventShape) (ns : List ℕ) → HasKnownFields types → HasNoCycle types → AreTypes types ns → Enough (length types + 1) types ns
+deep-enough_one types ns known none are = rw add-one (deep-enough types ns known none are)
+
 -- each of these holds of the parts of a list that is cut into two
 all-cut : (P : ℕ → Type 0) (xs ys : List ℕ) → AllByRecursion P (xs ++ ys) → AllByRecursion P xs × AllByRecursion P ys
 all-cut P [] ys a = (tt, a)
@@ -93,3 +97,11 @@ fields-known types [] a = tt
 fields-known types (f ∷ fs) a =
     let r = all-cut (λ n. n < length types) (types_in (form_of f.shape)) (flat_map (λ g. types_in (form_of g.shape)) fs) a in
     (r.0, fields-known types fs r.1)
+
+-- without event types
+pub none-known : HasKnownFields []
+none-known n = tt
+
+pub none-cycle : HasNoCycle []
+none-cycle zero n h = h
+none-cycle (suc depth) n h = h.1
