@@ -1,5 +1,5 @@
 use crate::reader::{DEPTH, Reader};
-use crate::reading::value_or_fault;
+use crate::reading::{value_or_fault, with_births};
 use crate::values::shown;
 use anyhow::{Result, bail};
 use epl_tree::{Comparison, Operator};
@@ -129,7 +129,7 @@ pub fn along(alloc: Global, types: &EventShapes, line: &mut Reader<'_>) -> Resul
     let arguments = line.sequence(alloc, types)?;
     let globals = line.sequence(alloc, types)?;
     let taken = taken_along(alloc, &arguments, &globals)?;
-    Ok(shown(alloc, &Value::Sequence(taken), types)?)
+    with_births(alloc, types, &Value::Sequence(taken))
 }
 
 fn wait(alloc: Global) -> Result<Boxed<Term>, AllocError> {

@@ -6,6 +6,7 @@ use action_host::Fault;
 use anyhow::{Result, bail};
 use epl_values::{EventShapes, Value};
 use std::alloc::Global;
+use std::fmt::Write;
 use value_steps::{
     at_key, birth, bounded, characters, emptied, follow, has_key, integer, is_text, keys_of,
     letters, natural, negated, part, place_of, size_of, truth,
@@ -21,6 +22,21 @@ pub fn value_or_fault(
         Ok(value) => Ok(shown(alloc, &value, types)?),
         Err(fault) => Ok(format!(in alloc; "fault {fault:?}")?),
     }
+}
+
+/// The text of a value, and the births of its elements, or its own where it is no sequence.
+pub fn with_births(alloc: Global, types: &EventShapes, value: &Value) -> Result<String> {
+    let mut text = shown(alloc, value, types)?;
+    text.push_str(" births")?;
+    match value {
+        Value::Sequence(items) => {
+            for item in items.as_slice() {
+                write!(text, " {}", birth(item))?;
+            }
+        }
+        _ => write!(text, " {}", birth(value))?,
+    }
+    Ok(text)
 }
 
 /// What is read in one value.
@@ -49,11 +65,7 @@ fn of_value(alloc: Global, types: &EventShapes, command: &str, value: &Value) ->
         "size" => Ok(shown(alloc, &size_of(value), types)?),
         "keys" => Ok(shown(alloc, &keys_of(alloc, value)?, types)?),
         "negate" => value_or_fault(alloc, types, negated(value)),
-        "emptied" => {
-            let emptied = emptied(alloc, value)?;
-            let text = shown(alloc, &emptied, types)?;
-            Ok(format!(in alloc; "{text} birth {}", birth(&emptied))?)
-        }
+        "emptied" => with_births(alloc, types, &emptied(alloc, value)?),
         _ => of_scalar(alloc, command, value),
     }
 }

@@ -60,7 +60,6 @@ pub fn read(alloc: Global, line: &mut Reader<'_>) -> Result<String> {
     let found = match kind {
         "integer" => value_at(alloc, text, at, &Shape::Integer, &types),
         "string" => value_at(alloc, text, at, &Shape::Text, &types),
-        "boolean" => value_at(alloc, text, at, &Shape::Boolean, &types),
         _ => bail!("no kind of value: {kind}"),
     };
     found_shown(alloc, &types, found)
