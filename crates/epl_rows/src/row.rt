@@ -82,7 +82,10 @@ impl<'l> Row<'l> {
     pub fn from_line(line: &'l str) -> Result<Row<'l>> {
         let Some(rest) = line.strip_prefix("with ") else {
             let outside = Outside::Real;
-            return Ok(Row { outside, words: line });
+            return Ok(Row {
+                outside,
+                words: line,
+            });
         };
         let Some((settings, words)) = rest.split_once(": ") else {
             bail!("no words behind the settings");

@@ -37,7 +37,12 @@ fn stored(alloc: Global, name: &str, bytes: Bytes) -> Result<StoredFile, AllocEr
 }
 
 /// The files among the words, and the long one.
-fn files<R: Files>(rt: &R, alloc: Global, words: &[String], made: &Made<'_>) -> Result<StoredFiles> {
+fn files<R: Files>(
+    rt: &R,
+    alloc: Global,
+    words: &[String],
+    made: &Made<'_>,
+) -> Result<StoredFiles> {
     let mut files = List::new(alloc);
     if let Some((count, name)) = made.long {
         let mut signs = Vec::new(alloc);
@@ -82,7 +87,12 @@ fn run_real<R: Files>(rt: &R, alloc: Global, words: &[String]) -> Result<Answer>
 }
 
 /// A run whose calls of the files and the output fail as planned.
-fn run_planned(alloc: Global, words: &[String], files: StoredFiles, made: &Made<'_>) -> Result<Answer> {
+fn run_planned(
+    alloc: Global,
+    words: &[String],
+    files: StoredFiles,
+    made: &Made<'_>,
+) -> Result<Answer> {
     ensure!(made.piece > 0, "a piece has at least one byte");
     let mut shelf = MemoryShelf::new(files, calls(alloc, made.failing_read)?);
     let mut out = MemorySink::new(alloc, made.piece, calls(alloc, made.failing_write)?);
