@@ -13,6 +13,7 @@ import os
 import pty
 import re
 import shutil
+import signal
 import subprocess
 import sys
 import tempfile
@@ -25,11 +26,14 @@ PARTS = ["epl", "install", "crates.txt", "README.md", "share", "docs", "examples
 REFUSED = re.compile(r"epl: program refused: .*:(\d+): (.*)\n")
 
 # A stand-in for the toolchain's command. It notes each call; a library is "built" by a file; the program that it "proves" and
-# the one that it tries say which of the two they are. A file `refuse` in a crate's folder has it refuse that crate.
+# the one that it tries say which of the two they are. In a crate's folder a file `refuse` has it refuse that crate, `slow` wait
+# there once, and `killed` be killed once.
 STAND_IN = r"""#!/bin/sh
 name=$(basename "$PWD")
 echo "$1 $name" >>"$CALLS"
 [ ! -f refuse ] || { echo "refused here"; exit 1; }
+[ ! -f slow ] || { rm slow; exec sleep 60; }
+[ ! -f killed ] || { rm killed; kill -9 $$; }
 program() {
   printf '#!/bin/sh\n[ $# -gt 0 ] || { echo "epl: the words are no command" >&2; exit 1; }\n' >"$1"
   printf '[ "$4" != no-such-file ] || exit 8\necho "%s $*"\n' "$2" >>"$1"
@@ -257,6 +261,25 @@ class Words(Users):
         self.assertEqual(run([self.epl, "explain", "21"])[0], 1)
         self.assertEqual(run([self.epl, "explain", "../help"])[0], 1)
 
+    def test_statuses_are_told_everywhere(self):
+        with open(f"{TOP}/docs/RUNS.md", encoding="utf-8") as it:
+            statuses = set(re.findall(r"(?m)^\| (\d+) \|", it.read()))
+        self.assertGreaterEqual(len(statuses), 10)
+        told = run([self.epl, "help"])[1].partition("Statuses:")[2]
+        self.assertEqual(set(re.findall(r"(?:^|  )(\d+)  [a-z]", told, re.M)), statuses)
+        with open(f"{TOP}/share/man/epl.1", encoding="utf-8") as it:
+            self.assertEqual(set(re.findall(r"(?m)^(\d+)\t", it.read())), statuses)
+
+    @unittest.skipUnless(shutil.which("bash"), "there is no bash")
+    def test_bash_completes(self):
+        self.write("a rule.mon", "")
+        asks = [("epl", ""), ("epl", "run", ""), ("epl", "run", "--serial", "--events", "e", "a"), (self.epl, "explain", "miss")]
+        wanted = ["run explain help --help --version --build --unproved", "--serial", "a rule.mon", "missing-key"]
+        for words, found in zip(asks, wanted):
+            script = 'source "$0"; COMP_WORDS=("$@"); COMP_CWORD=$(($# - 1)); _epl; printf "%s\\n" "${COMPREPLY[@]}"'
+            said = run(["bash", "-c", script, f"{self.copy}/share/completions/epl.bash", *words], cwd=self.room)[1]
+            self.assertIn(found, [said.replace("\n", " ").strip(), *said.splitlines()])
+
     def test_links_lead_here(self):
         os.mkdir(f"{self.room}/bin dir")
         os.symlink(self.epl, f"{self.room}/bin dir/one")
@@ -339,6 +362,25 @@ class Builds(Users):
             self.assertIn("refused here", err)
             os.remove(refuse)
         self.assertEqual(run([self.epl, "one"], **self.how)[:2], (0, "proved one\n"))
+
+    def test_goes_on_where_it_was_stopped(self):
+        self.write("a copy/crates/high/slow", "")
+        how = {"stdin": subprocess.DEVNULL, "stdout": subprocess.PIPE, "stderr": subprocess.PIPE, "start_new_session": True, **self.how}
+        build = subprocess.Popen([self.epl, "one"], text=True, **how)
+        while os.path.exists(f"{self.copy}/crates/high/slow"):
+            self.assertIsNone(build.poll())
+            time.sleep(0.05)
+        os.killpg(build.pid, signal.SIGINT)
+        out, err = build.communicate(timeout=20)
+        self.assertEqual(out, "")
+        self.assertIn("epl: stopped; the next run goes on from here\n", err)
+        self.assertEqual(self.calls(), ["lib low", "lib high"])
+        self.assertEqual(run([self.epl, "one"], **self.how)[:2], (0, "proved one\n"))
+
+    def test_a_killed_check_is_tried_again(self):
+        self.write("a copy/crates/high/killed", "")
+        self.assertEqual(run([self.epl, "one"], **self.how)[:2], (0, "proved one\n"))
+        self.assertEqual(self.calls(), ["lib low", "lib high", "lib high", "run correlator"])
 
     def test_the_two_programs_are_kept_apart(self):
         said = "epl: nothing is proved of the program that runs now\n"
