@@ -26,14 +26,14 @@ PARTS = ["epl", "install", "crates.txt", "README.md", "share", "docs", "examples
 REFUSED = re.compile(r"epl: program refused: .*:(\d+): (.*)\n")
 
 # A stand-in for the toolchain's command. It notes each call; a library is "built" by a file; the program that it "proves" and
-# the one that it tries say which of the two they are. In a crate's folder a file `refuse` has it refuse that crate, `slow` wait
-# there once, and `killed` be killed once.
+# the one that it tries say which of the two they are. Beside a crate's sources a file `refuse` has it refuse that crate, `slow` wait
+# there, and `killed` be killed once.
 STAND_IN = r"""#!/bin/sh
 name=$(basename "$PWD")
 echo "$1 $name" >>"$CALLS"
-[ ! -f refuse ] || { echo "refused here"; exit 1; }
-[ ! -f slow ] || { rm slow; exec sleep 60; }
-[ ! -f killed ] || { rm killed; kill -9 $$; }
+[ ! -f src/refuse ] || { echo "refused here"; exit 1; }
+[ ! -f src/slow ] || { touch "$CALLS.slow"; exec sleep 60; }
+[ ! -f src/killed ] || [ -f "$CALLS.killed" ] || { touch "$CALLS.killed"; kill -9 $$; }
 program() {
   printf '#!/bin/sh\n[ $# -gt 0 ] || { echo "epl: the words are no command" >&2; exit 1; }\n' >"$1"
   printf '[ "$4" != no-such-file ] || exit 8\necho "%s $*"\n' "$2" >>"$1"
@@ -41,7 +41,7 @@ program() {
 }
 case $1 in
   version) echo "stand-in" ;;
-  lib) mkdir -p out && touch out/built ;;
+  lib) mkdir -p out/rlib && touch out/rlib/format ;;
   run) mkdir -p out && program out/correlator proved; while [ "$1" != -- ]; do shift; done; shift; out/correlator "$@" ;;
   try) mkdir -p "$TMPDIR/a/b" && program "$TMPDIR/a/b/program" unproved && touch "$TMPDIR/a/b/stdout" && exec sleep 60 ;;
 esac
@@ -329,9 +329,12 @@ class Builds(Users):
         os.remove(self.calls_file)
         return [it for it in found if not it.startswith("version")]
 
-    def edit(self, name="low"):
-        later = time.time() + 5
-        os.utime(f"{self.copy}/crates/{name}/src/code.rt", (later, later))
+    def edit(self, name="low", text="// edited\n"):
+        """Writes a source, a little later than what is built now."""
+        source = f"{self.copy}/crates/{name}/src/code.rt"
+        with open(source, "a", encoding="utf-8") as it:
+            it.write(text)
+        os.utime(source, (time.time() + 2, time.time() + 2))
 
     def test_builds_lowest_first_and_once(self):
         status, out, err = run([self.epl, "one", "two  three"], **self.how)
@@ -349,13 +352,20 @@ class Builds(Users):
         self.assertIn("older than the sources", run([self.epl, "--version"], **self.how)[1])
         self.assertEqual(run([self.epl, "one"], **self.how)[:2], (0, "proved one\n"))
         self.assertEqual(self.calls(), ["lib low", "lib high", "run correlator"])
+        self.edit("high")
+        self.assertEqual(run([self.epl, "one"], **self.how)[:2], (0, "proved one\n"))
+        self.assertEqual(self.calls(), ["lib high", "run correlator"])
+        self.edit("low", "")
+        self.assertEqual(run([self.epl, "one"], **self.how)[:2], (0, "proved one\n"))
+        self.assertEqual(self.calls(), ["run correlator"])
+        self.assertEqual(sorted(os.listdir(self.copy)), sorted([*PARTS, "crates", "out"]))
 
     def test_a_refused_crate_leaves_no_program(self):
         """Nor does an older program run in its place, and the next run goes on at the refused crate."""
         self.assertEqual(run([self.epl, "--build"], **self.how)[0], 0)
         self.edit()
         for name in ("high", "correlator"):
-            refuse = self.write(f"a copy/crates/{name}/refuse", "")
+            refuse = self.write(f"a copy/crates/{name}/src/refuse", "")
             status, out, err = run([self.epl, "one"], **self.how)
             self.assertEqual((status, out), (4, ""))
             self.assertIn(f"epl: {name} wasn't proved", err)
@@ -364,10 +374,10 @@ class Builds(Users):
         self.assertEqual(run([self.epl, "one"], **self.how)[:2], (0, "proved one\n"))
 
     def test_goes_on_where_it_was_stopped(self):
-        self.write("a copy/crates/high/slow", "")
+        slow = self.write("a copy/crates/high/src/slow", "")
         how = {"stdin": subprocess.DEVNULL, "stdout": subprocess.PIPE, "stderr": subprocess.PIPE, "start_new_session": True, **self.how}
         build = subprocess.Popen([self.epl, "one"], text=True, **how)
-        while os.path.exists(f"{self.copy}/crates/high/slow"):
+        while not os.path.exists(f"{self.calls_file}.slow"):
             self.assertIsNone(build.poll())
             time.sleep(0.05)
         os.killpg(build.pid, signal.SIGINT)
@@ -375,10 +385,12 @@ class Builds(Users):
         self.assertEqual(out, "")
         self.assertIn("epl: stopped; the next run goes on from here\n", err)
         self.assertEqual(self.calls(), ["lib low", "lib high"])
+        os.remove(slow)
         self.assertEqual(run([self.epl, "one"], **self.how)[:2], (0, "proved one\n"))
+        self.assertEqual(self.calls(), ["lib high", "run correlator"])
 
     def test_a_killed_check_is_tried_again(self):
-        self.write("a copy/crates/high/killed", "")
+        self.write("a copy/crates/high/src/killed", "")
         self.assertEqual(run([self.epl, "one"], **self.how)[:2], (0, "proved one\n"))
         self.assertEqual(self.calls(), ["lib low", "lib high", "lib high", "run correlator"])
 
@@ -394,7 +406,7 @@ class Builds(Users):
         self.assertEqual(run([self.epl, "one"], **self.how)[:2], (0, "proved one\n"))
         self.assertEqual(run([self.epl, "--unproved", "one"], **self.how)[1], "unproved one\n")
         os.remove(f"{self.copy}/crates/correlator/out/correlator")
-        self.write("a copy/crates/correlator/refuse", "")
+        self.write("a copy/crates/correlator/src/refuse", "")
         self.assertEqual(run([self.epl, "one"], **self.how)[:2], (4, ""))
 
     def test_without_the_toolchain(self):

@@ -10,6 +10,8 @@ import sys
 import tempfile
 import time
 
+sys.dont_write_bytecode = True
+
 from building import PROGRAM, TOP, Lock, Progress, need_toolchain, stop
 
 # A program that runs long enough to be copied meanwhile.
