@@ -226,7 +226,7 @@ def main():
     need_toolchain()
     for number in (signal.SIGTERM, signal.SIGHUP, signal.SIGINT):
         signal.signal(number, lambda which, _: sys.exit(128 + which))
-    with Lock():
+    with Lock("proved"):
         began, progress = time.time(), Progress()
         print("epl: proving and building the correlator; README.md says how long that takes", file=sys.stderr)
         os.makedirs(LOGS, exist_ok=True)

@@ -74,7 +74,7 @@ def main():
     for number in (signal.SIGTERM, signal.SIGHUP, signal.SIGINT):
         signal.signal(number, lambda which, _: sys.exit(128 + which))
     kept = f"{TOP}/out/unproved"
-    with Lock(), tempfile.TemporaryDirectory(prefix="epl-") as folder:
+    with Lock("unproved"), tempfile.TemporaryDirectory(prefix="epl-") as folder:
         began, progress = time.time(), Progress()
         os.makedirs(kept, exist_ok=True)
         run = trial(folder)

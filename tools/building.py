@@ -61,11 +61,14 @@ def free_memory():
 
 
 class Lock:
-    """Held while a program is built in this checkout; a second build waits for the first."""
+    """Held while one of the two programs is built in this checkout; a second build of it waits for the first."""
+
+    def __init__(self, name):
+        self.name = name
 
     def __enter__(self):
         os.makedirs(f"{TOP}/out", exist_ok=True)
-        self.file = open(f"{TOP}/out/building.lock", "w", encoding="ascii")
+        self.file = open(f"{TOP}/out/{self.name}.lock", "w", encoding="ascii")
         try:
             fcntl.flock(self.file, fcntl.LOCK_EX | fcntl.LOCK_NB)
         except BlockingIOError:
