@@ -190,6 +190,17 @@ class WithProgram(Users):
         told = f"epl: file too long: {long}\n"
         self.assertEqual(run([self.epl, "run", "--serial", "--events", events, long]), (9, "", told))
 
+    def test_what_apama_has_is_told_as_the_page_says(self):
+        with open(f"{TOP}/docs/FROM-APAMA.md", encoding="utf-8") as it:
+            rows = re.findall(r"(?m)^\| `(.*)` \| `(lex|syntax|unbuilt|type \d+)` \|$", it.read())
+        self.assertGreaterEqual(len(rows), 20)
+        head = "event Trade { string symbol; integer price; }\nmonitor M {\n  integer count; Trade last; sequence<integer> prices;\n"
+        for written, told in rows:
+            with self.subTest(written=written):
+                program = self.write("rule.mon", f"{head}  action onload() {{\n    {written}\n  }}\n}}\n")
+                status, out, err = run([self.epl, "run", "--serial", "--events", "/dev/null", program])
+                self.assertEqual((status, out, err), (2, "", f"epl: program refused: {program}:5: {told}\n"))
+
     def test_installs_and_removes_exactly_that(self):
         prefix = f"{self.room}/some where"
         os.makedirs(f"{prefix}/share/man")
