@@ -4,10 +4,23 @@ function __epl_codes
     epl explain 2>/dev/null | string replace -rf '^  ([a-z0-9-]+) +(.*)$' '$1\t$2'
 end
 
-# Whether the word before the one that is written is this one.
-function __epl_behind
+# Whether this is what comes next in the words of a run: serial, option, fuel, events, evt (the event file) or mon (a program).
+function __epl_wants
     set -l words (commandline -opc)
-    test "$words[-1]" = $argv[1]
+    set -l next mon
+    switch "$words[-1]"
+        case run
+            set next serial
+        case --serial
+            set next option
+        case --fuel
+            set next fuel
+        case --events
+            set next evt
+        case '*'
+            test "$words[-2]" = --fuel; and set next events
+    end
+    contains run $words; and test $next = $argv[1]
 end
 
 complete -c epl -f
@@ -19,9 +32,9 @@ complete -c epl -n __fish_use_subcommand -l version -d 'the version, and whether
 complete -c epl -n __fish_use_subcommand -l build -d 'prove and build the program'
 complete -c epl -n __fish_use_subcommand -l unproved -d 'run a program of which nothing is proved'
 complete -c epl -n '__fish_seen_subcommand_from explain' -a '(__epl_codes)'
-complete -c epl -n '__epl_behind --unproved' -a run
-complete -c epl -n '__epl_behind run' -a --serial
-complete -c epl -n '__epl_behind --serial' -a '--events --fuel'
-complete -c epl -n '__epl_behind --fuel' -a '1000000 20000000'
-complete -c epl -n '__epl_behind --events' -F -r -a '(__fish_complete_suffix .evt)'
-complete -c epl -n '__fish_seen_subcommand_from run' -F -a '(__fish_complete_suffix .mon)'
+complete -c epl -n '__epl_wants serial' -l serial -d 'on one thread'
+complete -c epl -n '__epl_wants option' -l fuel -d 'how much each context may do'
+complete -c epl -n '__epl_wants option; or __epl_wants events' -l events -d 'the event file'
+complete -c epl -n '__epl_wants fuel' -a '1000000 20000000'
+complete -c epl -n '__epl_wants evt' -k -a '(__fish_complete_suffix .evt)'
+complete -c epl -n '__epl_wants mon' -k -a '(__fish_complete_suffix .mon)'
