@@ -67,7 +67,12 @@ fn calls(alloc: Global, failing: Option<u64>) -> Result<Calls, AllocError> {
     Ok(calls)
 }
 
-fn answer(alloc: Global, status: u8, report: &[u8], message: &[u8]) -> Result<Answer, AllocError> {
+fn answered(
+    alloc: Global,
+    status: u8,
+    report: &[u8],
+    message: &[u8],
+) -> Result<Answer, AllocError> {
     let report = Bytes::of(alloc, report)?;
     let message = Bytes::of(alloc, message)?;
     Ok(Answer {
@@ -83,7 +88,7 @@ fn run_real<R: Files>(rt: &R, alloc: Global, words: &[String]) -> Result<Answer>
     let mut out = MemorySink::new(alloc, PIECE, List::new(alloc));
     let mut err = MemorySink::new(alloc, PIECE, List::new(alloc));
     let outcome = correlate_serial(alloc, words, &mut shelf, &mut out, &mut err);
-    Ok(answer(alloc, outcome.status, out.taken(), err.taken())?)
+    Ok(answered(alloc, outcome.status, out.taken(), err.taken())?)
 }
 
 /// A run whose calls of the files and the output fail as planned.
@@ -98,7 +103,7 @@ fn run_planned(
     let mut out = MemorySink::new(alloc, made.piece, calls(alloc, made.failing_write)?);
     let mut err = MemorySink::new(alloc, PIECE, List::new(alloc));
     let outcome = correlate_serial(alloc, words, &mut shelf, &mut out, &mut err);
-    Ok(answer(alloc, outcome.status, out.taken(), err.taken())?)
+    Ok(answered(alloc, outcome.status, out.taken(), err.taken())?)
 }
 
 /// A run whose output has room for so many bytes.
@@ -108,7 +113,7 @@ fn run_within(alloc: Global, words: &[String], files: StoredFiles, room: usize) 
     out.reserve(room)?;
     let mut err = MemorySink::new(alloc, PIECE, List::new(alloc));
     let outcome = correlate_serial(alloc, words, &mut shelf, &mut out, &mut err);
-    Ok(answer(alloc, outcome.status, out.taken(), err.taken())?)
+    Ok(answered(alloc, outcome.status, out.taken(), err.taken())?)
 }
 
 /// Runs a row.

@@ -117,7 +117,11 @@ pub fn put_in_room(alloc: Global, types: &EventShapes, line: &mut Reader<'_>) ->
 }
 
 /// Puts strings on the standard output, or a string and then a byte that is no text on the standard error.
-pub fn put_on_stream<R: Print + Eprint>(rt: &R, alloc: Global, line: &mut Reader<'_>) -> Result<String> {
+pub fn put_on_stream<R: Print + Eprint>(
+    rt: &R,
+    alloc: Global,
+    line: &mut Reader<'_>,
+) -> Result<String> {
     match line.word() {
         "output" => {
             let puts = put_each(alloc, &mut StreamSink::new(rt, false), line)?;

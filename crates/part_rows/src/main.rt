@@ -27,7 +27,9 @@ fn value_answer(
     line: &mut Reader<'_>,
 ) -> Result<String> {
     match command {
-        "text" | "cost" | "order" | "default" | "fits" => values::answer(alloc, types, command, line),
+        "text" | "cost" | "order" | "default" | "fits" => values::answer(
+            alloc, types, command, line,
+        ),
         "part" | "follow" => reading::part_answer(alloc, types, command, line),
         "bounded" => reading::bounded_text(alloc, types, line),
         "place" => reading::place(alloc, types, line),
@@ -71,7 +73,12 @@ fn answer<R: Files + Print + Eprint>(
 }
 
 /// Answers one line.
-fn tell<R: Files + Print + Eprint>(rt: &R, alloc: Global, types: &EventShapes, line: &str) -> Result<()> {
+fn tell<R: Files + Print + Eprint>(
+    rt: &R,
+    alloc: Global,
+    types: &EventShapes,
+    line: &str,
+) -> Result<()> {
     println!(rt; "{line}")?;
     if line.is_empty() || line.starts_with('#') {
         return Ok(());

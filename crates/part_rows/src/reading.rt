@@ -86,7 +86,11 @@ pub fn bounded_text(alloc: Global, types: &EventShapes, line: &mut Reader<'_>) -
     value_or_fault(alloc, types, bounded(line.text(alloc)?))
 }
 
-fn part_or_fault(alloc: Global, types: &EventShapes, answer: Result<&Value, Fault>) -> Result<String> {
+fn part_or_fault(
+    alloc: Global,
+    types: &EventShapes,
+    answer: Result<&Value, Fault>,
+) -> Result<String> {
     match answer {
         Ok(value) => Ok(shown(alloc, value, types)?),
         Err(fault) => Ok(format!(in alloc; "fault {fault:?}")?),

@@ -11,7 +11,10 @@ pub fn spot(alloc: Global, line: &mut Reader<'_>) -> Result<String> {
     let at = line.count()?;
     let text = line.text(alloc)?;
     let text = text.as_str();
-    ensure!(at <= text.len() && text.len() < 4_294_967_295, "no such place");
+    ensure!(
+        at <= text.len() && text.len() < 4_294_967_295,
+        "no such place"
+    );
     let spot = spot_at(text, at);
     Ok(format!(in alloc; "{}:{}", spot.line, spot.column)?)
 }
