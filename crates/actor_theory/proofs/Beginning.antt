@@ -1,13 +1,9 @@
 -- The machine at the start, with the loads queued; the items come after boot.
-use Rattle.std.proofs.Common.{◌≡◌, ℕ, zero, suc, ◌≤◌, ◌<◌, List, [], ◌∷◌, ◌++◌, length, Bool, true, false, ◌==◌, cond, Some, None, refl, sym, ◌∙◌, ap, subst, arith, ◌⊎◌, inl, inr, map, slice_get, length-append, IfSome}
-use Rattle.std.specs.List.{AllByRecursion}
-use Rattle.std.proofs.lemmas.Bool.{cases_lt}
-use Rattle.std.proofs.lemmas.Option.{slice_get_past}
-use Rattle.actor_theory.specs.declared.entry.Entry.{Entry}
-use Rattle.actor_theory.specs.Language.{mail, loaded}
-use Rattle.actor_theory.specs.World.{own, start, given}
-use Rattle.actor_theory.specs.Joined.{Slots, Reader, joined, lifted, to_actors, slots_only}
-use Rattle.actor_theory.specs.Machine.{without_items, Cell, ReaderCell, cell_log, queue_at, world_of, IsCellOf, Stand, fresh_cells, fresh_reader, empty_queues, loaded_queues}
+use Rattle.actor_theory.proofs.Common.{◌≡◌, ℕ, zero, suc, ◌≤◌, ◌<◌, List, [], ◌∷◌, ◌++◌, length, Bool, true, false, ◌==◌, cond, Some, None, refl, sym, ◌∙◌, ap, subst, arith, ◌⊎◌, inl, inr, map, slice_get, IfSome, AllByRecursion, cases_lt, slice_get_past, Entry, mail, loaded, own, start, Slots, Reader, lifted, to_actors, slots_only, without_items, Cell, ReaderCell, cell_log, queue_at, world_of, IsCellOf, Stand, fresh_cells, fresh_reader, loaded_queues}
+use Rattle.std.proofs.Common.{length-append}
+use Rattle.actor_theory.specs.World.{given}
+use Rattle.actor_theory.specs.Joined.{joined}
+use Rattle.actor_theory.specs.Machine.{empty_queues}
 use Rattle.actor_theory.proofs.Queues.{length-arrived, delivered-at, delivered-lifted, slots-actors}
 use Rattle.actor_theory.proofs.Machining.{world-same}
 use Rattle.actor_theory.proofs.Reading.{mail-none}

@@ -1,10 +1,7 @@
 -- What parts that run beside each other keep.
-use Rattle.std.proofs.Common.{◌≡◌, ℕ, ◌≤◌, ◌<◌, List, [], ◌∷◌, ◌++◌, Bool, true, false, ◌==◌, cond, refl, sym, ◌∙◌, ap, append_assoc, append-nil, arith, ◌⊎◌, inl, inr}
-use Rattle.std.proofs.lemmas.Bool.{eqb-true, cases_eq}
-use Rattle.actor_theory.specs.declared.entry.Entry.{Entry}
-use Rattle.actor_theory.specs.Language.{Language, Moment, first, next, naive, number_after, mail, reply, replies, before, sends, by}
-use Rattle.actor_theory.specs.World.{World, given, IsFinished}
-use Rattle.actor_theory.specs.Faithful.{IsUnspentAlong, IsFaithfulRun, IsPrefix, IsBoot, BeginsWithBoot, IsReaderQuiet}
+use Rattle.actor_theory.proofs.Common.{◌≡◌, ℕ, ◌≤◌, ◌<◌, List, [], ◌∷◌, ◌++◌, Bool, true, false, ◌==◌, cond, refl, sym, ◌∙◌, ap, append_assoc, append-nil, arith, ◌⊎◌, inl, inr, eqb-true, cases_eq, Entry, Language, Moment, first, next, naive, number_after, mail, reply, replies, sends, by, World, IsFinished, IsUnspentAlong, IsFaithfulRun, IsPrefix, IsBoot, BeginsWithBoot, IsReaderQuiet}
+use Rattle.actor_theory.specs.Language.{before}
+use Rattle.actor_theory.specs.World.{given}
 use Rattle.actor_theory.specs.Holds.{Holds, Posts, Handles}
 use Rattle.actor_theory.proofs.Lists.{by-append, by-cons, by-mail_same, by-one_same, by-one_other}
 use Rattle.actor_theory.proofs.Sending.{sends-one}

@@ -1,14 +1,7 @@
 -- Each entry that was handled has a cause.
-use Rattle.std.proofs.Common.{◌≡◌, ℕ, ◌<◌, List, [], ◌∷◌, ◌++◌, Bool, true, false, ◌==◌, cond, refl, sym, subst, arith, inl, inr, map, filter}
-use Rattle.std.proofs.lemmas.Bool.{eqb-true, eqb-false}
-use Rattle.std.specs.List.{AllByRecursion}
-use Rattle.actor_theory.specs.declared.entry.Entry.{Entry}
-use Rattle.actor_theory.specs.Language.{Sent}
-use Rattle.actor_theory.specs.Language.{Language, Moment, first, next, number_after, mail, reply, replies, before, loaded, sends, by, stamped, is_for}
-use Rattle.actor_theory.specs.World.{World}
-use Rattle.actor_theory.specs.Faithful.{IsFaithfulRun}
-use Rattle.actor_theory.specs.Order.{handlings_from}
-use Rattle.actor_theory.specs.Caused.{HasNumber, IsCaused, IsCausal}
+use Rattle.actor_theory.proofs.Common.{◌≡◌, ℕ, ◌<◌, List, [], ◌∷◌, ◌++◌, Bool, true, false, ◌==◌, cond, refl, sym, subst, arith, inl, inr, map, filter, eqb-true, eqb-false, AllByRecursion, Entry, Sent, Language, Moment, first, next, number_after, mail, reply, replies, loaded, sends, by, stamped, is_for, World, IsFaithfulRun, handlings_from, IsCausal}
+use Rattle.actor_theory.specs.Language.{before}
+use Rattle.actor_theory.specs.Caused.{HasNumber, IsCaused}
 
 all-append : {C : Type 0} (P : Entry C → Type 0) (xs ys : List (Entry C)) → AllByRecursion P xs → AllByRecursion P ys → AllByRecursion P (xs ++ ys)
 all-append P [] ys a b = b

@@ -1,16 +1,9 @@
 -- Cells stand at their logs.
-use Rattle.std.proofs.Common.{◌≡◌, ℕ, ◌+◌, ◌<◌, List, [], ◌∷◌, ◌++◌, Bool, true, false, not, ◌&&◌, cond, Option, Some, None, refl, sym, ◌∙◌, ap, subst, max, arith, ◌⊎◌, inr, map, slice_get, IfSome}
-use Rattle.std.proofs.lemmas.Bool.{eq-eqb, ne_eqb, le-leb}
-use Rattle.std.proofs.lemmas.List.{map-append}
-use Rattle.actor_theory.specs.declared.entry.Entry.{Entry}
-use Rattle.actor_theory.specs.declared.entry.Handled.{Handled}
-use Rattle.actor_theory.specs.declared.entry.ReaderStep.{ReaderStep}
-use Rattle.actor_theory.specs.declared.entry.ReaderStep.TheVariants.{Item, Entry as Taken}
-use Rattle.actor_theory.specs.Language.{Language, Moment, naive, number_after, number_along, numbers_along}
-use Rattle.actor_theory.specs.World.{World, own, first_from, finds}
-use Rattle.actor_theory.specs.Joined.{Slots, Reader, joined, lifted, slot_after, reader_after, step_entry, step_number}
-use Rattle.actor_theory.specs.Kept.{entry_of, number_of}
-use Rattle.actor_theory.specs.Machine.{Cell, ReaderCell, cell_log, queue_at, own_items, world_of, IsCellOf, IsReaderOf, Stand, cell_after, reader_after_entry, reader_after_item}
+use Rattle.actor_theory.proofs.Common.{◌≡◌, ℕ, ◌+◌, ◌<◌, List, [], ◌∷◌, ◌++◌, Bool, true, false, not, ◌&&◌, cond, Option, Some, None, refl, sym, ◌∙◌, ap, subst, max, arith, ◌⊎◌, inr, map, slice_get, IfSome, eq-eqb, ne_eqb, le-leb, map-append, Entry, Handled, ReaderStep, Item, Language, Moment, naive, number_after, number_along, numbers_along, World, own, first_from, finds, Slots, Reader, lifted, slot_after, reader_after, step_entry, step_number, number_of, Cell, ReaderCell, cell_log, queue_at, own_items, world_of, IsCellOf, Stand, cell_after, reader_after_entry, reader_after_item}
+use Rattle.actor_theory.specs.declared.entry.ReaderStep.TheVariants.{Entry as Taken}
+use Rattle.actor_theory.specs.Joined.{joined}
+use Rattle.actor_theory.specs.Kept.{entry_of}
+use Rattle.actor_theory.specs.Machine.{IsReaderOf}
 use Rattle.actor_theory.proofs.Joining.{slot_moment, reader_moment, naive-slot, naive-reader}
 use Rattle.actor_theory.proofs.Keeping.{get-within}
 use Rattle.actor_theory.proofs.Queues.{lifted_found, first_from-lifted}

@@ -1,13 +1,8 @@
 -- The machine's record, and what its loops leave.
-use Rattle.std.proofs.Common.{◌≡◌, ℕ, zero, suc, ◌+◌, ◌≤◌, ◌<◌, List, [], ◌∷◌, ◌++◌, length, Bool, true, false, ◌==◌, cond, Option, Some, None, refl, sym, ◌∙◌, ap, subst, arith, ◌⊎◌, inl, inr, map, slice_get, IfSome}
-use Rattle.std.proofs.lemmas.Bool.{cases_eq, eq-eqb, ne_eqb}
-use Rattle.actor_theory.specs.declared.entry.Entry.{Entry}
-use Rattle.actor_theory.specs.Language.{Sent, Moment, mail}
-use Rattle.actor_theory.specs.World.{World, own, IsQuiet}
-use Rattle.actor_theory.specs.Order.{ordered, left_of}
-use Rattle.actor_theory.specs.Joined.{Slots, Reader, joined, lifted}
-use Rattle.actor_theory.specs.Kept.{SlotKept, Kept, slot_log, slot_left, world_of_kept, IsNaive, IsKept}
-use Rattle.actor_theory.specs.Machine.{Cell, ReaderCell, cell_log, queue_at, own_items, world_of, IsCellOf, Stand, delivered, slot_kept, slots_kept, kept_of}
+use Rattle.actor_theory.proofs.Common.{◌≡◌, ℕ, zero, suc, ◌+◌, ◌≤◌, ◌<◌, List, [], ◌∷◌, ◌++◌, length, Bool, true, false, ◌==◌, cond, Option, Some, None, refl, sym, ◌∙◌, ap, subst, arith, ◌⊎◌, inl, inr, map, slice_get, IfSome, cases_eq, eq-eqb, ne_eqb, Entry, Sent, Moment, mail, World, own, IsQuiet, left_of, Slots, Reader, lifted, SlotKept, Kept, slot_log, slot_left, world_of_kept, IsNaive, IsKept, Cell, ReaderCell, cell_log, queue_at, own_items, world_of, IsCellOf, Stand, delivered, kept_of}
+use Rattle.actor_theory.specs.Order.{ordered}
+use Rattle.actor_theory.specs.Joined.{joined}
+use Rattle.actor_theory.specs.Machine.{slot_kept, slots_kept}
 use Rattle.actor_theory.proofs.Leaving.{ordered-lifted, ordered-nil}
 use Rattle.actor_theory.proofs.Keeping.{log-reader, queue-reader, log-slot, queue-slot}
 use Rattle.actor_theory.proofs.Recording.{get-none}

@@ -1,15 +1,9 @@
 -- A step that finds an entry lowers the potential.
-use Rattle.std.proofs.Common.{◌≡◌, ℕ, zero, suc, ◌+◌, ◌≤◌, ◌<◌, List, [], ◌∷◌, ◌++◌, Bool, true, false, ◌==◌, cond, Option, Some, None, refl, ◌∙◌, ap, arith, ◌⊎◌, inl, inr, map, filter}
-use Rattle.std.proofs.lemmas.Bool.{eqb-true, eq-eqb, ne_eqb, cases_eq}
-use Rattle.actor_theory.specs.declared.entry.Entry.{Entry}
-use Rattle.actor_theory.specs.Language.{Sent}
-use Rattle.actor_theory.specs.Language.{Language, next, first, naive, number_after, stamped, is_for, mail, reply}
-use Rattle.actor_theory.specs.World.{World, first_from, handled, found, finds}
-use Rattle.actor_theory.specs.Potential.{total, entry_cost, IsMeasure, sum_to, part, potential}
+use Rattle.actor_theory.proofs.Common.{◌≡◌, ℕ, zero, suc, ◌+◌, ◌≤◌, ◌<◌, List, [], ◌∷◌, ◌++◌, Bool, true, false, ◌==◌, cond, Option, Some, None, refl, ◌∙◌, ap, arith, ◌⊎◌, inl, inr, map, filter, eqb-true, eq-eqb, ne_eqb, cases_eq, Entry, Sent, Language, next, first, naive, number_after, stamped, is_for, mail, reply, World, first_from, handled, found, finds, total, entry_cost, IsMeasure, potential, with_front}
+use Rattle.actor_theory.specs.Potential.{sum_to, part}
 use Rattle.actor_theory.proofs.Stepping.{finds-some}
 use Rattle.actor_theory.proofs.Running.{open-parts}
 use Rattle.actor_theory.proofs.Sending.{after_all-append}
-use Rattle.actor_theory.specs.World.{with_front}
 
 total-append : {X : Type 0} (c : X → ℕ) (xs ys : List X) → total c (xs ++ ys) ≡ total c xs + total c ys
 total-append c [] ys = omega arith

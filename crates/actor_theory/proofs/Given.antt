@@ -1,12 +1,7 @@
 -- The items come to the reader after boot.
-use Rattle.std.proofs.Common.{◌≡◌, ℕ, List, [], ◌∷◌, ◌++◌, Bool, true, false, ◌==◌, cond, refl, sym, ◌∙◌, ap, append-nil, map, filter}
-use Rattle.std.proofs.lemmas.Bool.{eqb-true, eqb-false, eq-eqb, ne_eqb}
-use Rattle.std.proofs.lemmas.List.{map-append}
-use Rattle.std.proofs.lemmas.List.Elements.{filter-append}
-use Rattle.actor_theory.specs.declared.entry.Entry.{Entry}
-use Rattle.actor_theory.specs.Language.{Language, Sent, first, to_self, mail, before, loaded, replies, sends, by, stamped, is_for}
-use Rattle.actor_theory.specs.World.{World, own, given}
-use Rattle.actor_theory.specs.Faithful.{IsReaderQuiet}
+use Rattle.actor_theory.proofs.Common.{◌≡◌, ℕ, List, [], ◌∷◌, ◌++◌, Bool, true, false, ◌==◌, cond, refl, sym, ◌∙◌, ap, append-nil, map, filter, eqb-true, eqb-false, eq-eqb, ne_eqb, map-append, filter-append, Entry, Language, Sent, first, mail, loaded, replies, sends, by, stamped, is_for, World, own, IsReaderQuiet}
+use Rattle.actor_theory.specs.Language.{to_self, before}
+use Rattle.actor_theory.specs.World.{given}
 use Rattle.actor_theory.proofs.Lists.{by-append, by-cons, by-one_same, by-one_other}
 use Rattle.actor_theory.proofs.Stepping.{IsEach}
 use Rattle.actor_theory.proofs.Running.{IsRun}

@@ -1,13 +1,7 @@
 -- The joined language is that of the contexts at a slot, and that of the reader at the reader.
-use Rattle.std.proofs.Common.{◌≡◌, ℕ, ◌≤◌, ◌<◌, List, [], ◌∷◌, ◌++◌, Bool, true, false, ◌==◌, nat_le, nat_lt, cond, refl, ◌∙◌, ap, subst, arith, ◌⊎◌, inl, inr, map, filter}
-use Rattle.std.proofs.lemmas.Bool.{eqb-true, eq-eqb, ne_eqb, le-leb, lt-ltb, leb-true, ltb-true}
-use Rattle.actor_theory.specs.declared.entry.Entry.{Entry}
-use Rattle.actor_theory.specs.declared.entry.ReaderStep.{ReaderStep}
-use Rattle.actor_theory.specs.declared.entry.ReaderStep.TheVariants.{Item, Entry as Taken}
-use Rattle.actor_theory.specs.Language.{Sent, Moment, first, after_all, naive, number_after, number_along, stamped, is_for, mail, replies}
-use Rattle.actor_theory.specs.World.{own}
-use Rattle.actor_theory.specs.Faithful.{IsUnspentAlong, IsReaderQuiet}
-use Rattle.actor_theory.specs.Joined.{Slots, Reader, joined, lifted, lifted_sent, to_actors, to_slots, reader_next, reader_sent, slot_after, reader_after, IsUnspentSlot, step_entry}
+use Rattle.actor_theory.proofs.Common.{◌≡◌, ℕ, ◌≤◌, ◌<◌, List, [], ◌∷◌, ◌++◌, Bool, true, false, ◌==◌, nat_le, nat_lt, cond, refl, ◌∙◌, ap, subst, arith, ◌⊎◌, inl, inr, map, filter, eqb-true, eq-eqb, ne_eqb, le-leb, lt-ltb, leb-true, ltb-true, Entry, ReaderStep, Item, Sent, Moment, first, after_all, naive, number_after, number_along, stamped, is_for, mail, replies, own, IsUnspentAlong, IsReaderQuiet, Slots, Reader, lifted, lifted_sent, to_actors, to_slots, slot_after, reader_after, step_entry}
+use Rattle.actor_theory.specs.declared.entry.ReaderStep.TheVariants.{Entry as Taken}
+use Rattle.actor_theory.specs.Joined.{joined, reader_next, reader_sent, IsUnspentSlot}
 
 mail-lifted : {C I : Type 0} (s n k : ℕ) (xs : List (Sent C)) → ◌≡◌ {A = List (Entry (C ⊎ I))} (mail s n k (map lifted_sent xs)) (map lifted (mail s n k xs))
 mail-lifted s n k [] = refl

@@ -1,16 +1,9 @@
 -- The record of a run, and the run of a record.
-use Rattle.std.proofs.Common.{◌≡◌, ℕ, zero, suc, ◌<◌, List, [], ◌∷◌, ◌++◌, Bool, true, false, ◌==◌, cond, Option, Some, None, refl, sym, ◌∙◌, ap, subst, append-nil, arith, ◌⊎◌, inl, inr, map, length, slice_get, IfSome}
-use Rattle.std.proofs.lemmas.Bool.{eq-eqb, ne_eqb, cases_eq}
-use Rattle.std.proofs.lemmas.Option.{slice_get_past}
-use Rattle.actor_theory.specs.declared.entry.Entry.{Entry}
-use Rattle.actor_theory.specs.declared.entry.ReaderStep.{ReaderStep}
-use Rattle.actor_theory.specs.declared.entry.ReaderStep.TheVariants.{Item, Entry as Taken}
-use Rattle.actor_theory.specs.Language.{Moment, first, naive, by}
-use Rattle.actor_theory.specs.World.{World, own}
-use Rattle.actor_theory.specs.Faithful.{IsUnspentAlong, IsFaithfulRun}
+use Rattle.actor_theory.proofs.Common.{◌≡◌, ℕ, zero, suc, ◌<◌, List, [], ◌∷◌, ◌++◌, Bool, true, false, ◌==◌, cond, Option, Some, None, refl, sym, ◌∙◌, ap, subst, append-nil, arith, ◌⊎◌, inl, inr, map, length, slice_get, IfSome, eq-eqb, ne_eqb, cases_eq, slice_get_past, Entry, ReaderStep, Item, Moment, first, naive, by, World, own, IsUnspentAlong, IsFaithfulRun, Slots, Reader, lifted, step_entry, SlotKept, Kept, log_of, slot_log, slot_left, world_of_kept, IsNaive, IsSlotEnded, IsFaithful, IsKept, IsScheduled}
+use Rattle.actor_theory.specs.declared.entry.ReaderStep.TheVariants.{Entry as Taken}
 use Rattle.actor_theory.specs.Order.{ordered}
-use Rattle.actor_theory.specs.Joined.{Slots, Reader, joined, lifted, step_entry, items_of}
-use Rattle.actor_theory.specs.Kept.{SlotKept, Kept, log_of, slot_log, slot_left, world_of_kept, IsNaive, IsBySender, IsSlotEnded, IsFaithful, IsKept, IsScheduled}
+use Rattle.actor_theory.specs.Joined.{joined, items_of}
+use Rattle.actor_theory.specs.Kept.{IsBySender}
 use Rattle.actor_theory.proofs.Given.{sends-own}
 use Rattle.actor_theory.proofs.Joining.{naive-slot, naive-reader, unspent-joined, unspent-slot, unspent-reader, joined-quiet}
 use Rattle.actor_theory.proofs.Leaving.{ordered-twice, ordered-faithful, ordered-lifted, lifted-all}

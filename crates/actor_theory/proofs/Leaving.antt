@@ -1,12 +1,6 @@
 -- What is left, in order of senders.
-use Rattle.std.proofs.Common.{◌≡◌, ℕ, zero, suc, ◌≤◌, ◌<◌, List, [], ◌∷◌, ◌++◌, Bool, true, false, ◌==◌, cond, refl, sym, ◌∙◌, ap, append-nil, arith, ◌⊎◌, inl, inr, map}
-use Rattle.std.proofs.lemmas.Bool.{eqb-true, cases_lt}
-use Rattle.actor_theory.specs.declared.entry.Entry.{Entry}
-use Rattle.actor_theory.specs.Language.{Language, naive, sends, by}
-use Rattle.actor_theory.specs.World.{World}
-use Rattle.actor_theory.specs.Faithful.{IsFaithfulRun}
-use Rattle.actor_theory.specs.Order.{ordered, left_of}
-use Rattle.actor_theory.specs.Joined.{lifted}
+use Rattle.actor_theory.proofs.Common.{◌≡◌, ℕ, zero, suc, ◌≤◌, ◌<◌, List, [], ◌∷◌, ◌++◌, Bool, true, false, ◌==◌, cond, refl, sym, ◌∙◌, ap, append-nil, arith, ◌⊎◌, inl, inr, map, eqb-true, cases_lt, Entry, Language, naive, sends, by, World, IsFaithfulRun, left_of, lifted}
+use Rattle.actor_theory.specs.Order.{ordered}
 use Rattle.actor_theory.proofs.Lists.{by-append, by-cons, by-one_other}
 use Rattle.actor_theory.proofs.Given.{both-nil}
 use Rattle.actor_theory.proofs.Scheduled.{senders-from_by, sends-none}

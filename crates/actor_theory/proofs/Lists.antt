@@ -1,11 +1,6 @@
 -- The entries of a sender, and the oldest one.
-use Rattle.std.proofs.Common.{◌≡◌, ℕ, List, [], ◌∷◌, ◌++◌, Bool, true, false, ◌==◌, cond, Option, Some, None, refl, sym, ◌∙◌, ap, map, filter}
-use Rattle.std.proofs.lemmas.Bool.{eqb-true, eqb-false, eq-eqb, ne_eqb}
-use Rattle.std.proofs.lemmas.List.Elements.{filter-append}
-use Rattle.actor_theory.specs.declared.entry.Entry.{Entry}
-use Rattle.actor_theory.specs.Language.{Sent}
-use Rattle.actor_theory.specs.Language.{stamped, is_for, is_of, mail, by}
-use Rattle.actor_theory.specs.World.{first_from, with_front}
+use Rattle.actor_theory.proofs.Common.{◌≡◌, ℕ, List, [], ◌∷◌, ◌++◌, Bool, true, false, ◌==◌, cond, Option, Some, None, refl, sym, ◌∙◌, ap, map, filter, eqb-true, eqb-false, eq-eqb, ne_eqb, filter-append, Entry, Sent, stamped, is_for, mail, by, first_from, with_front}
+use Rattle.actor_theory.specs.Language.{is_of}
 
 pub by-append : {C : Type 0} (s : ℕ) (xs ys : List (Entry C)) → by s (xs ++ ys) ≡ by s xs ++ by s ys
 by-append s xs ys = filter-append (is_of s) xs ys

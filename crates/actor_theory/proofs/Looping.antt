@@ -1,16 +1,7 @@
 -- The machine's rounds and picks, and the record at their end.
-use Rattle.std.proofs.Common.{◌≡◌, ℕ, ◌+◌, ◌<◌, ◌≤◌, List, [], ◌∷◌, Bool, true, false, ◌||◌, Option, sym, ◌∙◌, ap, subst, ◌⊎◌, inr, map, length, drop}
-use Rattle.actor_theory.specs.declared.entry.Entry.{Entry}
-use Rattle.actor_theory.specs.Language.{Language}
-use Rattle.actor_theory.specs.World.{World, step, picked, follow, turn_of, IsFinished}
-use Rattle.actor_theory.specs.Faithful.{BeginsWithBoot, IsBoot}
+use Rattle.actor_theory.proofs.Common.{◌≡◌, ℕ, ◌+◌, ◌<◌, ◌≤◌, List, [], ◌∷◌, Bool, true, false, ◌||◌, Option, sym, ◌∙◌, ap, subst, ◌⊎◌, inr, map, length, drop, Entry, Language, World, step, picked, follow, turn_of, IsFinished, BeginsWithBoot, IsBoot, IsMeasure, Rounding, Slots, Reader, IsFaithful, IsScheduled, Cell, ReaderCell, world_of, Stand, Stepped, fresh_cells, fresh_reader, loaded_queues, kept_of, without_items, IsJoinedLog}
 use Rattle.actor_theory.specs.Holds.{Holds}
-use Rattle.actor_theory.specs.Potential.{IsMeasure}
-use Rattle.actor_theory.specs.Rounding.{Rounding}
-use Rattle.actor_theory.specs.Joined.{Slots, Reader, joined}
-use Rattle.actor_theory.specs.Kept.{IsFaithful, IsScheduled}
-use Rattle.actor_theory.specs.Machine.{Cell, ReaderCell, world_of, Stand, Stepped, fresh_cells, fresh_reader, loaded_queues, kept_of, without_items}
-use Rattle.actor_theory.specs.Measure.{IsJoinedLog}
+use Rattle.actor_theory.specs.Joined.{joined}
 use Rattle.actor_theory.proofs.Joining.{joined-quiet}
 use Rattle.actor_theory.proofs.Beside.{boot-holds}
 use Rattle.actor_theory.proofs.Recording.{finished-kept}

@@ -1,15 +1,7 @@
 -- The machine's steps are those of its world.
-use Rattle.std.proofs.Common.{◌≡◌, ℕ, suc, ◌≤◌, ◌<◌, List, [], ◌∷◌, ◌++◌, Bool, true, false, ◌==◌, cond, Some, None, refl, sym, ◌∙◌, ap, subst, append_assoc, arith, ◌⊎◌, inl, inr, map, length, slice_get, slice_set, IfSome}
-use Rattle.std.specs.Option.{is_some}
-use Rattle.std.specs.List.{AllByRecursion}
-use Rattle.std.proofs.lemmas.Bool.{eqb-true, eqb-false, ne_eqb, cases_eq}
-use Rattle.std.proofs.lemmas.List.{map-append}
-use Rattle.actor_theory.specs.declared.entry.Entry.{Entry}
-use Rattle.actor_theory.specs.Language.{Language, Sent, Moment, naive, number_after, reply, mail}
-use Rattle.actor_theory.specs.World.{World, first_from, finds, found, handled}
-use Rattle.actor_theory.specs.Joined.{Slots, Reader, joined, lifted, to_actors, step_entry}
+use Rattle.actor_theory.proofs.Common.{◌≡◌, ℕ, suc, ◌≤◌, ◌<◌, List, [], ◌∷◌, ◌++◌, Bool, true, false, ◌==◌, cond, Some, None, refl, sym, ◌∙◌, ap, subst, append_assoc, arith, ◌⊎◌, inl, inr, map, length, slice_get, slice_set, IfSome, is_some, AllByRecursion, eqb-true, eqb-false, ne_eqb, cases_eq, map-append, Entry, Language, Sent, Moment, naive, number_after, reply, mail, World, first_from, finds, found, handled, Slots, Reader, lifted, to_actors, step_entry, Cell, ReaderCell, cell_log, queue_in, queue_at, own_items, world_of, IsCellOf, Stand, cell_after, delivered, Stepped}
+use Rattle.actor_theory.specs.Joined.{joined}
 use Rattle.actor_theory.specs.Kept.{entry_of}
-use Rattle.actor_theory.specs.Machine.{Cell, ReaderCell, cell_log, queue_in, queue_at, own_items, world_of, IsCellOf, Stand, cell_after, delivered, Stepped}
 use Rattle.actor_theory.proofs.Queues.{lifted_found, all-append, all-mail, get-set_same, get-set_other, length-set, length-arrived, delivered-at, delivered-lifted}
 use Rattle.actor_theory.proofs.Cells.{cell-after, is-slot, cell-is, slot-log, slot-moment, finds-slot}
 use mathlib.Core.Path.{fun_ext}

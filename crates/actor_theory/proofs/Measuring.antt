@@ -1,16 +1,10 @@
 -- The measure of contexts and a reader.
-use Rattle.std.proofs.Common.{◌≡◌, ℕ, ◌+◌, ◌≤◌, ◌<◌, List, [], ◌∷◌, ◌++◌, Bool, true, false, nat_le, cond, Option, Some, None, refl, sym, ◌∙◌, ap, subst, arith, ◌⊎◌, inl, inr, map, filter, slice_get}
-use Rattle.std.proofs.lemmas.Bool.{cases_eq, ne_eqb}
-use Rattle.actor_theory.specs.declared.entry.Entry.{Entry}
-use Rattle.actor_theory.specs.declared.entry.ReaderStep.{ReaderStep}
-use Rattle.actor_theory.specs.declared.entry.ReaderStep.TheVariants.{Item, Entry as Taken}
-use Rattle.actor_theory.specs.Language.{Sent, Moment, naive, number_after, number_along}
-use Rattle.actor_theory.specs.World.{own}
-use Rattle.actor_theory.specs.Potential.{total, entry_cost, Pays, IsMeasure}
-use Rattle.actor_theory.specs.Joined.{Slots, Reader, joined, lifted, lifted_sent, slots_only, slot_after, reader_after, step_entry}
+use Rattle.actor_theory.proofs.Common.{◌≡◌, ℕ, ◌+◌, ◌≤◌, ◌<◌, List, [], ◌∷◌, ◌++◌, Bool, true, false, nat_le, cond, Option, Some, None, refl, sym, ◌∙◌, ap, subst, arith, ◌⊎◌, inl, inr, map, filter, slice_get, cases_eq, ne_eqb, Entry, ReaderStep, Item, Sent, Moment, naive, number_after, number_along, own, total, entry_cost, IsMeasure, Slots, Reader, lifted, lifted_sent, slots_only, slot_after, reader_after, step_entry, Cell, ReaderCell, cell_log, world_of, IsJoinedLog}
+use Rattle.actor_theory.specs.declared.entry.ReaderStep.TheVariants.{Entry as Taken}
+use Rattle.actor_theory.specs.Potential.{Pays}
+use Rattle.actor_theory.specs.Joined.{joined}
 use Rattle.actor_theory.specs.Kept.{entry_of}
-use Rattle.actor_theory.specs.Machine.{Cell, ReaderCell, cell_log, world_of}
-use Rattle.actor_theory.specs.Measure.{IsJoinedLog, IsSlotMeasure, IsReaderMeasure, joined_weight, joined_cost}
+use Rattle.actor_theory.specs.Measure.{IsSlotMeasure, IsReaderMeasure, joined_weight, joined_cost}
 use Rattle.actor_theory.proofs.Joining.{slot_moment, reader_moment, naive-slot, naive-reader}
 use Rattle.actor_theory.proofs.Cells.{reader-log}
 

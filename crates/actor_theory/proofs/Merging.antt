@@ -1,11 +1,7 @@
 -- The order of all handlings is one.
-use Rattle.std.proofs.Common.{◌≡◌, ℕ, zero, suc, ◌≤◌, ◌<◌, List, [], ◌∷◌, Bool, true, false, ◌&&◌, ◌||◌, ◌==◌, nat_lt, nat_le, cond, refl, sym, ◌∙◌, ap, subst, arith, ◌⊎◌, inl, inr}
-use Rattle.std.proofs.lemmas.Bool.{eqb-true, eqb-false, eq-eqb, ne_eqb, ltb-true, ltb-false, leb-true, leb-false, lt-ltb, cases_eq, cases_lt}
-use Rattle.std.specs.List.{AllByRecursion}
-use Rattle.actor_theory.specs.declared.entry.Entry.{Entry}
-use Rattle.actor_theory.specs.Language.{Language, Moment, first, next, number_after}
-use Rattle.actor_theory.specs.World.{World}
-use Rattle.actor_theory.specs.Order.{Handling, handlings_from, handlings, IsBefore, IsAscending, at, IsOrder, is_before, insert, insert_all, order_below, order_of}
+use Rattle.actor_theory.proofs.Common.{◌≡◌, ℕ, zero, suc, ◌≤◌, ◌<◌, List, [], ◌∷◌, Bool, true, false, ◌&&◌, ◌||◌, ◌==◌, nat_lt, nat_le, cond, refl, sym, ◌∙◌, ap, subst, arith, ◌⊎◌, inl, inr, eqb-true, eqb-false, eq-eqb, ne_eqb, ltb-true, leb-true, lt-ltb, cases_eq, cases_lt, AllByRecursion, Entry, Language, Moment, first, next, number_after, World, Handling, handlings_from, handlings, IsBefore, IsAscending, at, IsOrder, is_before, insert, insert_all, order_of}
+use Rattle.std.proofs.lemmas.Bool.{ltb-false, leb-false}
+use Rattle.actor_theory.specs.Order.{order_below}
 
 abbrev Above : {C : Type 0} → ℕ → List (Handling C) → Type 0
 Above n hs = AllByRecursion (λ h. n < h.number) hs

@@ -1,10 +1,8 @@
 -- The place of the oldest entry of a sender.
-use Rattle.std.proofs.Common.{◌≡◌, ℕ, suc, ◌+◌, ◌<◌, ◌≤◌, List, [], ◌∷◌, ◌++◌, length, take, drop, get_or, Option, Some, None, refl, sym, ◌∙◌, ap, append_assoc, arith}
+use Rattle.actor_theory.proofs.Common.{◌≡◌, ℕ, suc, ◌+◌, ◌<◌, ◌≤◌, List, [], ◌∷◌, ◌++◌, length, drop, Option, Some, None, refl, sym, ◌∙◌, ap, append_assoc, arith, eq-eqb, ne_eqb, Entry, first_from, with_front}
+use Rattle.std.proofs.Common.{take, get_or}
 use Rattle.std.specs.List.{remove}
-use Rattle.std.proofs.lemmas.Bool.{eq-eqb, ne_eqb}
 use Rattle.std.proofs.lemmas.List.{drop_more, take_more, drop_all}
-use Rattle.actor_theory.specs.declared.entry.Entry.{Entry}
-use Rattle.actor_theory.specs.World.{first_from, with_front}
 use Rattle.actor_theory.proofs.Queues.{behind}
 
 pub behind-none : {C : Type 0} (o : Option (Entry C × List (Entry C))) → o ≡ behind [] o

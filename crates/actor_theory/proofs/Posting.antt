@@ -1,12 +1,7 @@
 -- An actor posts all of its outboxes.
-use Rattle.std.proofs.Common.{◌≡◌, ℕ, List, [], ◌++◌, Bool, true, false, ◌==◌, cond, refl, sym, ◌∙◌, ap, append_assoc, append-nil, ◌⊎◌, inr, map}
-use Rattle.std.proofs.lemmas.Bool.{eqb-true, eqb-false}
-use Rattle.actor_theory.specs.declared.entry.Entry.{Entry}
-use Rattle.actor_theory.specs.Language.{Language, by}
-use Rattle.actor_theory.specs.World.{World}
+use Rattle.actor_theory.proofs.Common.{◌≡◌, ℕ, List, [], ◌++◌, Bool, true, false, ◌==◌, cond, refl, sym, ◌∙◌, ap, append_assoc, append-nil, ◌⊎◌, inr, map, eqb-true, eqb-false, Entry, Language, by, World, Slots, Reader, lifted, Cell, ReaderCell, queue_at, own_items, world_of}
 use Rattle.actor_theory.specs.Holds.{Holds}
-use Rattle.actor_theory.specs.Joined.{Slots, Reader, joined, lifted}
-use Rattle.actor_theory.specs.Machine.{Cell, ReaderCell, queue_at, own_items, world_of}
+use Rattle.actor_theory.specs.Joined.{joined}
 use Rattle.actor_theory.proofs.Lists.{by-append}
 use Rattle.actor_theory.proofs.Beside.{box-by}
 use Rattle.actor_theory.proofs.Leaving.{by-by_other, lifted-append}

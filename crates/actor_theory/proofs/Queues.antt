@@ -1,13 +1,5 @@
 -- Queues of what others sent, and the reader's own items.
-use Rattle.std.proofs.Common.{subst, ◌≡◌, ℕ, zero, suc, ◌+◌, ◌≤◌, ◌<◌, List, [], ◌∷◌, ◌++◌, Bool, true, false, ◌==◌, nat_le, nat_lt, cond, Option, Some, None, refl, sym, ◌∙◌, ap, append-nil, arith, ◌⊎◌, inl, inr, map, filter, length, slice_get, slice_set}
-use Rattle.std.proofs.lemmas.Bool.{eq-eqb, ne_eqb, ltb-true, le-leb, cases_lt}
-use Rattle.std.proofs.lemmas.Option.{slice_get_past}
-use Rattle.std.specs.List.{AllByRecursion}
-use Rattle.actor_theory.specs.declared.entry.Entry.{Entry}
-use Rattle.actor_theory.specs.Language.{Sent, mail, stamped, is_for}
-use Rattle.actor_theory.specs.World.{own, first_from, with_front, other_sender, head_sender}
-use Rattle.actor_theory.specs.Joined.{lifted, lifted_sent, to_actors, to_slots, slots_only}
-use Rattle.actor_theory.specs.Machine.{queue_in, queue_at, arrived, delivered}
+use Rattle.actor_theory.proofs.Common.{subst, ◌≡◌, ℕ, zero, suc, ◌+◌, ◌≤◌, ◌<◌, List, [], ◌∷◌, ◌++◌, Bool, true, false, ◌==◌, nat_le, nat_lt, cond, Option, Some, None, refl, sym, ◌∙◌, ap, append-nil, arith, ◌⊎◌, inl, inr, map, filter, length, slice_get, slice_set, eq-eqb, ne_eqb, ltb-true, le-leb, cases_lt, slice_get_past, AllByRecursion, Entry, Sent, mail, stamped, is_for, own, first_from, with_front, other_sender, head_sender, lifted, lifted_sent, to_actors, to_slots, slots_only, queue_in, queue_at, arrived, delivered}
 use Rattle.actor_theory.proofs.Joining.{mail-to_actors, mail-to_actors_none}
 use Rattle.actor_theory.proofs.Leaving.{lifted-append}
 

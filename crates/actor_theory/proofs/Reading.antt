@@ -1,14 +1,7 @@
 -- The reader's steps of the machine, and steps that find nothing.
-use Rattle.std.proofs.Common.{◌≡◌, ℕ, zero, suc, ◌+◌, ◌<◌, max, List, [], ◌∷◌, ◌++◌, Bool, true, false, ◌==◌, nat_lt, cond, Option, Some, None, refl, sym, ◌∙◌, ap, subst, append-nil, arith, ◌⊎◌, inr, map, length, slice_get, slice_set}
-use Rattle.std.specs.List.{AllByRecursion}
-use Rattle.std.proofs.lemmas.Bool.{eq-eqb, ne_eqb, ltb-true}
-use Rattle.std.proofs.lemmas.List.{map-append}
-use Rattle.actor_theory.specs.declared.entry.Entry.{Entry}
-use Rattle.actor_theory.specs.declared.entry.ReaderStep.TheVariants.{Item, Entry as Taken}
-use Rattle.actor_theory.specs.Language.{Sent, Moment, naive, number_after, reply, mail}
-use Rattle.actor_theory.specs.World.{World, own, first_from, finds}
-use Rattle.actor_theory.specs.Joined.{Slots, Reader, joined, lifted, to_slots, slots_only, step_entry}
-use Rattle.actor_theory.specs.Machine.{Cell, ReaderCell, queue_in, queue_at, own_items, world_of, Stand, reader_after_entry, reader_after_item, arrived, delivered, Stepped}
+use Rattle.actor_theory.proofs.Common.{◌≡◌, ℕ, zero, suc, ◌+◌, ◌<◌, max, List, [], ◌∷◌, ◌++◌, Bool, true, false, ◌==◌, nat_lt, cond, Option, Some, None, refl, sym, ◌∙◌, ap, subst, append-nil, arith, ◌⊎◌, inr, map, length, slice_get, slice_set, AllByRecursion, eq-eqb, ne_eqb, ltb-true, map-append, Entry, Item, Sent, Moment, naive, number_after, reply, mail, World, own, first_from, finds, Slots, Reader, lifted, to_slots, slots_only, step_entry, Cell, ReaderCell, queue_in, queue_at, own_items, world_of, Stand, reader_after_entry, reader_after_item, arrived, delivered, Stepped}
+use Rattle.actor_theory.specs.declared.entry.ReaderStep.TheVariants.{Entry as Taken}
+use Rattle.actor_theory.specs.Joined.{joined}
 use Rattle.actor_theory.proofs.Joining.{mail-filter_none}
 use Rattle.actor_theory.proofs.Queues.{lifted_found, first_from-lifted, behind, first_from-own, first_from-nobody, all-rest, get-set_same, length-set, length-arrived, delivered-at, slots-actors}
 use Rattle.actor_theory.proofs.Cells.{reader-entry, reader-item, reader-log, reader-moment, finds-slot, finds-reader}

@@ -1,17 +1,9 @@
 -- A run has one record.
-use Rattle.std.proofs.Common.{◌≡◌, ℕ, zero, suc, ◌≤◌, List, [], ◌∷◌, Bool, true, Option, Some, None, refl, sym, ◌∙◌, ap, subst, arith, ◌⊎◌, inl, inr, map, length, slice_get, IfSome}
-use Rattle.std.proofs.lemmas.Option.{slice_get_past}
-use Rattle.actor_theory.specs.declared.entry.Entry.{Entry}
-use Rattle.actor_theory.specs.declared.entry.Handled.{Handled}
-use Rattle.actor_theory.specs.declared.entry.ReaderStep.{ReaderStep}
-use Rattle.actor_theory.specs.declared.entry.ReaderStep.TheVariants.{Item, Entry as Taken}
-use Rattle.actor_theory.specs.Language.{numbers_along}
-use Rattle.actor_theory.specs.World.{World, IsFinished}
-use Rattle.actor_theory.specs.Faithful.{BeginsWithBoot}
+use Rattle.actor_theory.proofs.Common.{◌≡◌, ℕ, zero, suc, ◌≤◌, List, [], ◌∷◌, Bool, true, Option, Some, None, refl, sym, ◌∙◌, ap, subst, arith, ◌⊎◌, inl, inr, map, length, slice_get, IfSome, slice_get_past, Entry, Handled, ReaderStep, Item, numbers_along, World, IsFinished, BeginsWithBoot, IsCausal, Slots, Reader, lifted, slot_after, step_entry, step_number, SlotKept, Kept, number_of, log_of, slot_log, slot_left, world_of_kept, IsNaive, IsFaithful, IsKept, IsScheduled}
+use Rattle.actor_theory.specs.declared.entry.ReaderStep.TheVariants.{Entry as Taken}
 use Rattle.actor_theory.specs.Holds.{Holds}
-use Rattle.actor_theory.specs.Caused.{IsCausal}
-use Rattle.actor_theory.specs.Joined.{Slots, Reader, joined, lifted, slot_after, step_entry, step_number}
-use Rattle.actor_theory.specs.Kept.{SlotKept, Kept, entry_of, number_of, log_of, slot_log, slot_left, world_of_kept, IsNaive, IsFaithful, IsKept, IsScheduled}
+use Rattle.actor_theory.specs.Joined.{joined}
+use Rattle.actor_theory.specs.Kept.{entry_of}
 use Rattle.actor_theory.proofs.Leaving.{lifted-same, lifted-all}
 use Rattle.actor_theory.proofs.Unique.{scheduled-unique}
 use Rattle.actor_theory.proofs.Beside.{holds-finished}

@@ -1,14 +1,8 @@
 -- The order of a faithful record is a run, and gives the record again.
-use Rattle.std.proofs.Common.{◌≡◌, ℕ, zero, suc, List, [], ◌∷◌, Option, Some, None, refl, sym, ◌∙◌, ap, subst, ◌⊎◌, inl, inr, map, slice_get, IfSome}
-use Rattle.std.proofs.lemmas.Bool.{ne_eqb, eq-eqb, cases_eq}
-use Rattle.actor_theory.specs.declared.entry.Entry.{Entry}
-use Rattle.actor_theory.specs.declared.entry.Handled.{Handled}
-use Rattle.actor_theory.specs.declared.entry.ReaderStep.{ReaderStep}
-use Rattle.actor_theory.specs.Language.{Language, Moment, next, first, number_after, numbers_along}
-use Rattle.actor_theory.specs.World.{World, start, step, steps, follow}
-use Rattle.actor_theory.specs.Order.{Handling, handlings_from, handlings, merged, insert_all, pick_of, FindsEach, order_of, ordered, left_of}
-use Rattle.actor_theory.specs.Joined.{Slots, Reader, joined, lifted, step_entry, step_number}
-use Rattle.actor_theory.specs.Kept.{SlotKept, Kept, entry_of, number_of, slot_log, slot_left, world_of_kept, IsNaive, IsSlotEnded, IsFaithful, IsKept}
+use Rattle.actor_theory.proofs.Common.{◌≡◌, ℕ, zero, suc, List, [], ◌∷◌, Option, Some, None, refl, sym, ◌∙◌, ap, subst, ◌⊎◌, inl, inr, map, slice_get, IfSome, ne_eqb, eq-eqb, cases_eq, Entry, Handled, ReaderStep, Language, Moment, next, first, number_after, numbers_along, World, start, step, steps, follow, Handling, handlings_from, handlings, merged, insert_all, pick_of, FindsEach, order_of, left_of, Slots, Reader, lifted, step_entry, step_number, SlotKept, Kept, number_of, slot_log, slot_left, world_of_kept, IsNaive, IsSlotEnded, IsFaithful, IsKept}
+use Rattle.actor_theory.specs.Order.{ordered}
+use Rattle.actor_theory.specs.Joined.{joined}
+use Rattle.actor_theory.specs.Kept.{entry_of}
 use Rattle.actor_theory.specs.Replay.{slot_handling, reader_handling, slot_handlings, kept_handlings, order_of_kept, IsReplayedKept}
 use Rattle.actor_theory.proofs.Merging.{order-is}
 use Rattle.actor_theory.proofs.Ordering.{faithful-replayed}

@@ -1,12 +1,8 @@
 -- The loops of a program that runs rounds.
-use Rattle.std.proofs.Common.{◌≡◌, ℕ, zero, suc, ◌+◌, ◌-◌, ◌≤◌, ◌<◌, List, Bool, true, false, ◌||◌, cond, Option, Some, None, refl, sym, ◌∙◌, ap, arith, ◌∷◌, [], ◌++◌, subst, ◌==◌, ◌⊎◌, inl, inr}
-use Rattle.std.specs.Option.{is_some}
-use Rattle.std.proofs.lemmas.Bool.{eq-eqb, lt-leb, cases_lt}
-use Rattle.actor_theory.specs.declared.entry.Entry.{Entry}
-use Rattle.actor_theory.specs.Language.{Language}
-use Rattle.actor_theory.specs.World.{World, found, finds, step, turn_of, turns, round, rounds, IsQuiet, IsFinished}
-use Rattle.actor_theory.specs.Potential.{IsMeasure, potential}
-use Rattle.actor_theory.specs.Rounding.{Rounding, Rounded, RoundsSoFar}
+use Rattle.actor_theory.proofs.Common.{◌≡◌, ℕ, zero, suc, ◌+◌, ◌-◌, ◌≤◌, ◌<◌, List, Bool, true, false, ◌||◌, cond, Option, Some, None, refl, sym, ◌∙◌, ap, arith, ◌∷◌, [], ◌++◌, subst, ◌==◌, ◌⊎◌, inl, inr, is_some, eq-eqb, cases_lt, Entry, Language, World, found, finds, step, turn_of, round, rounds, IsQuiet, IsFinished, IsMeasure, potential, Rounding}
+use Rattle.std.proofs.lemmas.Bool.{lt-leb}
+use Rattle.actor_theory.specs.World.{turns}
+use Rattle.actor_theory.specs.Rounding.{Rounded, RoundsSoFar}
 use Rattle.actor_theory.proofs.Falling.{handled-falls}
 
 pub rounding-none : {S C : Type 0} (L : Language S C) (weight : S → ℕ) (cost : ℕ → Entry C → ℕ) (takes : Bool) (began : World C) → Rounding L weight cost takes began began 0 false

@@ -1,10 +1,7 @@
 -- What every run of steps keeps.
-use Rattle.std.proofs.Common.{◌≡◌, ℕ, zero, suc, ◌+◌, ◌≤◌, ◌<◌, List, [], ◌∷◌, ◌++◌, Bool, true, false, not, ◌==◌, nat_le, cond, Option, Some, None, refl, sym, ◌∙◌, ap, append_assoc, append-nil, arith}
-use Rattle.std.proofs.lemmas.Bool.{eqb-true, leb-true, ne_eqb, and_parts, not-true}
-use Rattle.actor_theory.specs.declared.entry.Entry.{Entry}
-use Rattle.actor_theory.specs.Language.{Language, Moment, first, next, after_all, naive}
-use Rattle.actor_theory.specs.World.{World, start, handled, found, finds, step, steps, is_open, turn_of, turns, round, rounds}
-use Rattle.actor_theory.specs.Faithful.{IsUnspentAlong, IsPrefix}
+use Rattle.actor_theory.proofs.Common.{◌≡◌, ℕ, zero, suc, ◌+◌, ◌≤◌, ◌<◌, List, [], ◌∷◌, ◌++◌, Bool, true, false, not, ◌==◌, nat_le, cond, Option, Some, None, refl, sym, ◌∙◌, ap, append_assoc, append-nil, arith, eqb-true, leb-true, ne_eqb, and_parts, Entry, Language, Moment, first, next, after_all, naive, World, start, handled, found, finds, step, steps, is_open, turn_of, round, rounds, IsUnspentAlong, IsPrefix}
+use Rattle.std.proofs.lemmas.Bool.{not-true}
+use Rattle.actor_theory.specs.World.{turns}
 use Rattle.actor_theory.proofs.Stepping.{IsEach, step-each, start-each, finds-some}
 
 -- what holds of a run's worlds

@@ -1,11 +1,7 @@
 -- What a schedule makes is faithful.
-use Rattle.std.proofs.Common.{◌≡◌, ℕ, ◌+◌, ◌≤◌, ◌<◌, List, [], ◌∷◌, ◌++◌, Bool, true, false, not, ◌==◌, nat_le, cond, Option, Some, None, refl, sym, ◌∙◌, ap, subst, arith, ◌⊎◌, inl, inr}
-use Rattle.std.proofs.lemmas.Bool.{eqb-true, eqb-false, eq-eqb, le-leb, ne_eqb, and_from, not_from_false, le-leb, cases_lt}
-use Rattle.std.specs.List.{AllByRecursion}
-use Rattle.actor_theory.specs.declared.entry.Entry.{Entry}
-use Rattle.actor_theory.specs.Language.{Language, naive, sends, by}
-use Rattle.actor_theory.specs.World.{World, start, first_from, with_front, given, step, picked, follow, is_open, other_sender, head_sender, IsQuiet, IsFinished}
-use Rattle.actor_theory.specs.Faithful.{IsDelivered, IsBoot, BeginsWithBoot, IsReaderQuiet, IsFaithfulRun, IsScheduledRun}
+use Rattle.actor_theory.proofs.Common.{◌≡◌, ℕ, ◌+◌, ◌≤◌, ◌<◌, List, [], ◌∷◌, ◌++◌, Bool, true, false, not, ◌==◌, nat_le, cond, Option, Some, None, refl, sym, ◌∙◌, ap, subst, arith, ◌⊎◌, inl, inr, eqb-true, eqb-false, eq-eqb, le-leb, ne_eqb, and_from, not_from_false, le-leb, cases_lt, AllByRecursion, Entry, Language, naive, sends, by, World, start, first_from, with_front, step, picked, follow, is_open, other_sender, head_sender, IsQuiet, IsFinished, IsBoot, BeginsWithBoot, IsReaderQuiet, IsFaithfulRun, IsScheduledRun}
+use Rattle.actor_theory.specs.World.{given}
+use Rattle.actor_theory.specs.Faithful.{IsDelivered}
 use Rattle.actor_theory.proofs.Given.{given-run}
 use Rattle.actor_theory.proofs.Running.{IsRun, step-run, start-run, rounds-keep, Extends, extends-refl, step-extends}
 

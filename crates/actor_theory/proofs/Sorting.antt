@@ -1,12 +1,8 @@
 -- A stable sort of all handlings by number and actor is their order.
-use Rattle.std.proofs.Common.{◌≡◌, ℕ, zero, suc, List, [], ◌∷◌, ◌++◌, Bool, true, false, not, cond, refl, sym, ◌∙◌, ap, subst, map, filter}
-use Rattle.std.specs.List.{AllByRecursion}
+use Rattle.actor_theory.proofs.Common.{◌≡◌, ℕ, zero, suc, List, [], ◌∷◌, ◌++◌, Bool, true, false, not, cond, refl, sym, ◌∙◌, ap, subst, map, filter, AllByRecursion, and_parts, map-append, filter-append, Handling, is_before, insert, insert_all, merged}
 use Rattle.std.specs.List.Sorted.{ties}
 use Rattle.std.specs.Cmp.{IsStrictWeakOrder}
-use Rattle.std.proofs.lemmas.Bool.{and_parts}
-use Rattle.std.proofs.lemmas.List.{map-append}
-use Rattle.std.proofs.lemmas.List.Elements.{filter-append}
-use Rattle.actor_theory.specs.Order.{Handling, is_before, insert, insert_all, merged, IsAscendingBy, laid}
+use Rattle.actor_theory.specs.Order.{IsAscendingBy, laid}
 
 -- nothing is less than itself
 lt-self : {X : Type 0} (lt : X → X → Bool) → IsStrictWeakOrder lt → (x : X) → lt x x ≡ false

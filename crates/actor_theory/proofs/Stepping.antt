@@ -1,9 +1,5 @@
 -- What a step keeps.
-use Rattle.std.proofs.Common.{◌≡◌, ℕ, List, [], ◌∷◌, ◌++◌, Bool, true, false, ◌==◌, cond, Option, Some, None, refl, sym, ◌∙◌, ap, append_assoc, append-nil}
-use Rattle.std.proofs.lemmas.Bool.{eqb-true, eqb-false}
-use Rattle.actor_theory.specs.declared.entry.Entry.{Entry}
-use Rattle.actor_theory.specs.Language.{Language, naive, number_after, mail, reply, sends, by, loaded}
-use Rattle.actor_theory.specs.World.{World, start, first_from, handled, found, finds, step, steps, is_open}
+use Rattle.actor_theory.proofs.Common.{◌≡◌, ℕ, List, [], ◌∷◌, ◌++◌, Bool, true, false, ◌==◌, cond, Option, Some, None, refl, sym, ◌∙◌, ap, append_assoc, append-nil, eqb-true, eqb-false, Entry, Language, naive, number_after, mail, reply, sends, by, loaded, World, start, first_from, handled, found, finds, step, steps, is_open}
 use Rattle.actor_theory.proofs.Lists.{by-append, by-mail_same, by-mail_other, IsFirstFrom, first_from-some}
 use Rattle.actor_theory.proofs.Sending.{sends-one}
 

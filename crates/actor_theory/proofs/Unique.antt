@@ -1,9 +1,6 @@
 -- A schedule makes one world.
-use Rattle.std.proofs.Common.{◌≡◌, [], Option, ℕ, zero, suc, ◌+◌, ◌-◌, ◌≤◌, ◌<◌, List, Bool, true, false, refl, sym, ◌∙◌, ap, subst, arith, ◌⊎◌, inl, inr}
-use Rattle.std.proofs.lemmas.Bool.{cases_lt}
-use Rattle.actor_theory.specs.Language.{Language}
-use Rattle.actor_theory.specs.World.{World, start, found, given, follow, turns, round, rounds, IsQuiet, IsFinished}
-use Rattle.actor_theory.specs.Faithful.{IsScheduledRun}
+use Rattle.actor_theory.proofs.Common.{◌≡◌, [], Option, ℕ, zero, suc, ◌+◌, ◌-◌, ◌≤◌, ◌<◌, List, Bool, true, false, refl, sym, ◌∙◌, ap, subst, arith, ◌⊎◌, inl, inr, cases_lt, Language, World, start, found, follow, round, rounds, IsQuiet, IsFinished, IsScheduledRun}
+use Rattle.actor_theory.specs.World.{given, turns}
 
 turns-quiet : {S C : Type 0} (L : Language S C) (takes : Bool) (d n : ℕ) (w : World C) → IsQuiet L takes w → turns L takes d n w ≡ w
 turns-quiet L takes d zero w quiet = refl

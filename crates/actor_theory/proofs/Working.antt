@@ -1,9 +1,5 @@
 -- What the work of all parts keeps, whatever its interleaving.
-use Rattle.std.proofs.Common.{ℕ, List, [], ◌∷◌, ◌++◌, sym, ◌∙◌, ap, append_assoc, append-nil}
-use Rattle.actor_theory.specs.declared.entry.Entry.{Entry}
-use Rattle.actor_theory.specs.Language.{Language, Moment, first, next, after_all, naive, replies, sends, by}
-use Rattle.actor_theory.specs.World.{World}
-use Rattle.actor_theory.specs.Faithful.{IsUnspentAlong, BeginsWithBoot}
+use Rattle.actor_theory.proofs.Common.{ℕ, List, [], ◌∷◌, ◌++◌, sym, ◌∙◌, ap, append_assoc, append-nil, Entry, Language, Moment, first, next, after_all, naive, replies, sends, by, World, IsUnspentAlong, BeginsWithBoot}
 use Rattle.actor_theory.specs.Holds.{Holds, Works}
 use Rattle.actor_theory.proofs.Lists.{by-append}
 use Rattle.actor_theory.proofs.Sending.{sends-append}

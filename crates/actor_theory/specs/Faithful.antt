@@ -1,6 +1,5 @@
 -- Faithful logs, and those of a schedule.
-use Rattle.std.specs.Prelude.{◌≡◌, ℕ, ◌≤◌, ◌<◌, List, [], ◌∷◌, ◌++◌, true, false, Option}
-use Rattle.std.specs.List.{AllByRecursion}
+use Rattle.actor_theory.specs.Common.{◌≡◌, ℕ, ◌≤◌, ◌<◌, List, [], ◌∷◌, ◌++◌, true, false, Option, AllByRecursion}
 use Rattle.actor_theory.specs.declared.entry.Entry.{Entry}
 use Rattle.actor_theory.specs.Language.{Language, Moment, first, next, naive, mail, replies, sends, by}
 use Rattle.actor_theory.specs.World.{World, start, given, follow, IsFinished}

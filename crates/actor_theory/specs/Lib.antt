@@ -1,3 +1,4 @@
+pub mod Common
 pub mod Language
 pub mod World
 pub mod Faithful

@@ -1,5 +1,5 @@
 -- The order of a record's handlings, and the run along it.
-use Rattle.std.specs.Prelude.{ℕ, suc, List, [], ◌==◌, if◌then◌else◌, Option, Some, None, map, slice_get, ◌⊎◌}
+use Rattle.actor_theory.specs.Common.{ℕ, suc, List, [], ◌==◌, if◌then◌else◌, Option, Some, None, map, slice_get, ◌⊎◌}
 use Rattle.std.proofs.Common.{inr}
 use Rattle.actor_theory.specs.declared.entry.Handled.{Handled}
 use Rattle.actor_theory.specs.declared.entry.ReaderStep.{ReaderStep}

@@ -10,4 +10,3 @@ pub use laws::{
     measures_join, order_is_a_run, parts_begin, parts_keep, reader_is_quiet, schedule_is_a_run,
     schedule_makes_one, scheduled_is_faithful, work_keeps,
 };
-

@@ -1,23 +1,14 @@
 -- What a run of a body does: an action or a callback, with the actions that it calls.
-use Rattle.std.specs.Prelude.{ℕ, zero, suc, ◌-◌, ◌==◌, nat_lt, Bool, true, false, if◌then◌else◌, List, [], ◌∷◌, ◌++◌, length, map, Option, Some, None, slice_get, Result, Ok, Err}
-use Rattle.epl_values.specs.declared.shape.Shape.{Shape}
-use Rattle.epl_values.specs.declared.value.Value.{Value}
+use Rattle.body_meaning.specs.Common.{ℕ, zero, suc, ◌-◌, ◌==◌, nat_lt, Bool, true, false, if◌then◌else◌, List, [], ◌∷◌, ◌++◌, length, map, Option, Some, None, slice_get, Result, Ok, Err, Shape, Value, TypedExpr, Site, Stmt, default_of, Fault, Effect, Scene}
 use Rattle.epl_values.specs.declared.value.Value.TheVariants as value
-use Rattle.typed_program.specs.declared.expression.TypedExpr.{TypedExpr}
 use Rattle.typed_program.specs.declared.program.Program.{Program}
 use Rattle.typed_program.specs.declared.program.Monitor.{Monitor}
 use Rattle.typed_program.specs.declared.program.Global.{Global}
 use Rattle.typed_program.specs.declared.program.Action.{Action}
-use Rattle.typed_program.specs.declared.program.Site.{Site}
-use Rattle.typed_program.specs.declared.statement.Stmt.{Stmt}
 use Rattle.typed_program.specs.declared.statement.Variable.TheVariants as variable
-use Rattle.value_rules.specs.Defaults.{default_of}
-use Rattle.action_host.specs.declared.host.Fault.{Fault}
 use Rattle.action_host.specs.declared.host.Fault.TheVariants as fault
-use Rattle.action_host.specs.declared.host.Effect.{Effect}
 use Rattle.action_host.specs.declared.host.End.{End}
 use Rattle.action_host.specs.declared.host.End.TheVariants as end
-use Rattle.action_host.specs.Scenes.{Scene}
 use Rattle.body_meaning.specs.declared.run.Flow.{Flow}
 use Rattle.body_meaning.specs.declared.run.Flow.TheVariants.{Next, Broke, Continued, Returned}
 use Rattle.body_meaning.specs.declared.run.Frame.{Frame}

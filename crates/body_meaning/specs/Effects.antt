@@ -1,17 +1,16 @@
 -- The effects of bodies, each behind its charge.
-use Rattle.std.specs.Prelude.{ℕ, ◌+◌, ◌*◌, Bool, true, false, if◌then◌else◌, List, [], ◌∷◌, ◌++◌, map, sum, max, Option, Some, None, Result, Err}
+use Rattle.body_meaning.specs.Common.{ℕ, ◌+◌, Bool, true, false, if◌then◌else◌, List, [], ◌∷◌, ◌++◌, map, Option, Some, None, Result, Err, Value, Value-F, out-Value, Pair, roll-Pair, cost_of, Effect, Scene}
+use Rattle.std.specs.Prelude.{◌*◌, sum, max}
 use Rattle.std.specs.List.{sum_by}
-use Rattle.epl_values.specs.declared.value.Value.{Value, Value-F, out-Value, fold-Value}
+use Rattle.epl_values.specs.declared.value.Value.{fold-Value}
 use Rattle.epl_values.specs.declared.value.Value.TheOpen as layer
 use Rattle.epl_values.specs.declared.value.Value.TheVariants as value
-use Rattle.epl_values.specs.declared.value.Pair.{Pair, Pair-F, roll-Pair}
+use Rattle.epl_values.specs.declared.value.Pair.{Pair-F}
 use Rattle.typed_program.specs.declared.term.Term.{Term, Term-F, fold-Term}
 use Rattle.typed_program.specs.declared.term.Term.TheOpen as term
-use Rattle.value_rules.specs.Costs.{cost_of}
 use Rattle.action_host.specs.declared.host.Fault.TheVariants as fault
-use Rattle.action_host.specs.declared.host.Effect.{Effect}
 use Rattle.action_host.specs.declared.host.Effect.TheVariants as effect
-use Rattle.action_host.specs.Scenes.{Scene, count_targets}
+use Rattle.action_host.specs.Scenes.{count_targets}
 use Rattle.body_meaning.specs.Runs.{M, ◌>>=◌, ◌>>◌, pure, charge, perform, given, look, by_scene}
 use Rattle.body_meaning.specs.Values.{letters_of, truth_of}
 

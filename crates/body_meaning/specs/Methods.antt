@@ -1,17 +1,11 @@
 -- What methods give, what they charge, and what those that change their object make of it.
-use Rattle.std.specs.Prelude.{ℕ, ◌+◌, ◌==◌, ℤ, pos, negsuc, Bool, true, false, List, [], ◌∷◌, ◌++◌, length, map, remove, nat_lt, if◌then◌else◌, Option, Some, None, is_some, Result, Ok, Err}
+use Rattle.body_meaning.specs.Common.{ℕ, ◌+◌, ◌==◌, ℤ, pos, negsuc, Bool, true, false, List, [], ◌∷◌, ◌++◌, length, map, remove, nat_lt, if◌then◌else◌, Option, Some, None, Result, Ok, Err, EventShape, Value, Value-F, out-Value, roll-Value, Pair, out-Pair, order_of, Method, cost_of, Fault}
+use Rattle.std.specs.Prelude.{is_some}
 use Rattle.std.specs.List.{position}
-use Rattle.epl_values.specs.declared.shape.EventShape.{EventShape}
-use Rattle.epl_values.specs.declared.value.Value.{Value, Value-F, out-Value, roll-Value}
 use Rattle.epl_values.specs.declared.value.Value.TheOpen as layer
 use Rattle.epl_values.specs.declared.value.Value.TheVariants as value
-use Rattle.epl_values.specs.declared.value.Pair.{Pair, out-Pair}
-use Rattle.epl_values.specs.Order.{order_of}
-use Rattle.typed_program.specs.declared.expression.Method.{Method}
 use Rattle.typed_program.specs.declared.expression.Method.TheVariants as method
-use Rattle.value_rules.specs.Costs.{cost_of}
 use Rattle.value_rules.specs.Texts.{text_in}
-use Rattle.action_host.specs.declared.host.Fault.{Fault}
 use Rattle.action_host.specs.declared.host.Fault.TheVariants as fault
 use Rattle.action_host.specs.declared.host.Effect.TheVariants as effect
 use Rattle.body_meaning.specs.Runs.{M, ◌>>=◌, ◌>>◌, pure, charge, perform, given}

@@ -1,12 +1,9 @@
 -- Runs: what they change, and how they are put together.
-use Rattle.std.specs.Prelude.{ℕ, Bool, true, false, nat_le, List, [], ◌∷◌, ◌++◌, Result, Ok, Err}
-use Rattle.epl_values.specs.declared.value.Value.{Value}
+use Rattle.body_meaning.specs.Common.{ℕ, Bool, true, false, nat_le, List, [], ◌∷◌, ◌++◌, Result, Ok, Err, Value, Fault, Effect, Scene}
 use Rattle.epl_values.specs.declared.value.Value.TheVariants as value
-use Rattle.action_host.specs.declared.host.Fault.{Fault}
-use Rattle.action_host.specs.declared.host.Effect.{Effect}
 use Rattle.action_host.specs.declared.host.Answer.{Answer}
 use Rattle.action_host.specs.declared.host.Answer.TheVariants as answer
-use Rattle.action_host.specs.Scenes.{Scene, spent_by}
+use Rattle.action_host.specs.Scenes.{spent_by}
 use Rattle.action_host.specs.Replies.{Reply, reply}
 use Rattle.body_meaning.specs.declared.run.Frame.{Frame}
 use Rattle.body_meaning.specs.declared.run.Halt.{Halt}

@@ -1,21 +1,13 @@
 -- What statements mean. A statement is charged as it begins, but a block.
-use Rattle.std.specs.Prelude.{ℕ, zero, suc, Bool, true, false, List, [], ◌∷◌, ◌++◌, map, Option, Some, None, slice_get, Result, Ok, Err}
-use Rattle.epl_values.specs.declared.shape.Shape.{Shape}
-use Rattle.epl_values.specs.declared.shape.EventShape.{EventShape}
-use Rattle.epl_values.specs.declared.value.Value.{Value}
+use Rattle.body_meaning.specs.Common.{ℕ, zero, suc, Bool, true, false, List, [], ◌∷◌, ◌++◌, map, Option, Some, None, slice_get, Result, Ok, Err, Shape, EventShape, Value, TypedExpr, TypedSuffix, Site, Stmt, cost_of, default_of}
 use Rattle.epl_values.specs.declared.value.Value.TheVariants as value
 use Rattle.epl_tree.specs.declared.statement.Level.{Level}
 use Rattle.epl_tree.specs.declared.statement.Level.TheVariants as level
-use Rattle.typed_program.specs.declared.expression.TypedExpr.{TypedExpr}
-use Rattle.typed_program.specs.declared.expression.TypedSuffix.{TypedSuffix}
-use Rattle.typed_program.specs.declared.program.Site.{Site}
 use Rattle.typed_program.specs.declared.program.Local.{Local}
-use Rattle.typed_program.specs.declared.statement.Stmt.{Stmt, Stmt-F, fold-Stmt}
+use Rattle.typed_program.specs.declared.statement.Stmt.{Stmt-F, fold-Stmt}
 use Rattle.typed_program.specs.declared.statement.Stmt.TheOpen as stmt
 use Rattle.typed_program.specs.declared.statement.TypedPlace.{TypedPlace}
 use Rattle.typed_program.specs.declared.statement.Variable.TheVariants as variable
-use Rattle.value_rules.specs.Costs.{cost_of}
-use Rattle.value_rules.specs.Defaults.{default_of}
 use Rattle.action_host.specs.declared.host.Fault.TheVariants as fault
 use Rattle.body_meaning.specs.declared.run.Flow.{Flow}
 use Rattle.body_meaning.specs.declared.run.Flow.TheVariants.{Next, Broke, Continued, Returned}

@@ -1,17 +1,10 @@
 -- What operators compute from values. A value of another kind than is asked counts as 0, false, or empty.
-use Rattle.std.specs.Prelude.{ℕ, ◌+◌, ◌-◌, ◌^◌, ◌&&◌, ◌||◌, ◌==◌, not, ℤ, pos, negsuc, neg_ℤ, ◌+ℤ◌, ◌-ℤ◌, ◌*ℤ◌, Bool, true, false, if◌then◌else◌, nat_lt, nat_le, List, [], ◌∷◌, ◌++◌, length, map, Option, Some, None, int_le, int_div, int_rem, Result, Ok, Err}
-use Rattle.std.specs.declared.cmp.Ordering.{Ordering}
-use Rattle.std.specs.declared.cmp.Ordering.TheVariants.{Less, Equal, Greater}
-use Rattle.epl_values.specs.declared.value.Value.{Value, Value-F, out-Value}
+use Rattle.body_meaning.specs.Common.{ℕ, ◌+◌, ◌-◌, ◌==◌, not, ℤ, pos, negsuc, Bool, true, false, if◌then◌else◌, nat_lt, nat_le, List, [], ◌∷◌, ◌++◌, length, map, Option, Some, None, Result, Ok, Err, Ordering, Less, Equal, Greater, Value, Value-F, out-Value, Pair, order_of, Comparison, Operator, Fault}
+use Rattle.std.specs.Prelude.{◌^◌, ◌&&◌, ◌||◌, neg_ℤ, ◌+ℤ◌, ◌-ℤ◌, ◌*ℤ◌, int_le, int_div, int_rem}
 use Rattle.epl_values.specs.declared.value.Value.TheOpen as layer
 use Rattle.epl_values.specs.declared.value.Value.TheVariants as value
-use Rattle.epl_values.specs.declared.value.Pair.{Pair}
-use Rattle.epl_values.specs.Order.{order_of}
-use Rattle.epl_tree.specs.declared.expression.Comparison.{Comparison}
 use Rattle.epl_tree.specs.declared.expression.Comparison.TheVariants as comparison
-use Rattle.epl_tree.specs.declared.expression.Operator.{Operator}
 use Rattle.epl_tree.specs.declared.expression.Operator.TheVariants as operator
-use Rattle.action_host.specs.declared.host.Fault.{Fault}
 use Rattle.action_host.specs.declared.host.Fault.TheVariants as fault
 
 -- ---- what is in a value

@@ -1,7 +1,6 @@
 -- Births in ascending order, where listeners go and come.
-use Rattle.std.proofs.Common.{ℕ, ◌<◌, List, [], ◌∷◌, ◌++◌, map, filter, Bool, true, false, if◌then◌else◌, All}
-use Rattle.std.proofs.lemmas.List.Elements.{All-nil, All-cons, All-head, All-tail, All-map, All-filter, All-push}
-use Rattle.context_meaning.specs.declared.context.Listener.{Listener}
+use Rattle.context_meaning.proofs.Common.{ℕ, ◌<◌, List, [], ◌∷◌, ◌++◌, map, filter, Bool, true, false, if◌then◌else◌, All, All-nil, All-cons, All-head, All-tail, All-filter, All-push, Listener}
+use Rattle.std.proofs.lemmas.List.Elements.{All-map}
 use Rattle.context_meaning.specs.Fits.{Ascend}
 
 -- the births of listeners

@@ -1,18 +1,8 @@
 -- Runs of bodies keep a context's fit, with what stands behind their ends.
-use Rattle.std.proofs.Common.{◌≡◌, ℕ, ◌<◌, List, [], Bool, true, false, not, length, slice_get, Option, Some, None, refl}
-use Rattle.std.proofs.lemmas.Bool.{cond_both}
-use Rattle.std.proofs.lemmas.List.Elements.{All-filter, All-weaker}
-use Rattle.epl_values.specs.declared.value.Value.{Value}
-use Rattle.typed_program.specs.declared.program.Program.{Program}
-use Rattle.typed_program.specs.Typed.{Typed}
-use Rattle.action_host.specs.declared.host.End.{End}
+use Rattle.context_meaning.proofs.Common.{◌≡◌, ℕ, ◌<◌, List, [], Bool, true, false, not, length, slice_get, Option, Some, None, refl, cond_both, All-filter, All-weaker, Value, Program, Typed, End, Instance, Listener, Context, instance_of, is_instance, is_busy, unless_spent, without_instance, without_listeners, taken, act_in, run_in, last_run, ondie_of, dying, idle, finished, ran, fault_line, InstanceFits, ListenerFits, ContextFits, MayRun}
 use Rattle.action_host.specs.declared.host.End.TheVariants as end
-use Rattle.context_meaning.specs.declared.context.Instance.{Instance}
-use Rattle.context_meaning.specs.declared.context.Listener.{Listener}
-use Rattle.context_meaning.specs.declared.context.Context.{Context}
-use Rattle.context_meaning.specs.Contexts.{instance_of, is_instance, is_its, is_busy, unless_spent, without_instance, without_listeners}
-use Rattle.context_meaning.specs.Ends.{taken, act_in, come, run_in, last_run, ondie_of, dying, ended, idle, finished, ran, fault_line}
-use Rattle.context_meaning.specs.Fits.{InstanceFits, ListenerFits, ContextFits, MayRun}
+use Rattle.context_meaning.specs.Contexts.{is_its}
+use Rattle.context_meaning.specs.Ends.{come, ended}
 use Rattle.context_meaning.proofs.Finding.{find_others, others}
 use Rattle.context_meaning.proofs.Running.{RunsKeepShapes, spend_fits, line_fits, filter_fits, found_fits, run_runs}
 use Rattle.context_meaning.proofs.Heads.{ondie_may}

@@ -1,25 +1,11 @@
 -- The fuel of a context, with the events in its row, never grows, and what waits in front stays.
-use Rattle.std.proofs.Common.{◌≡◌, ℕ, ◌+◌, ◌-◌, ◌≤◌, List, [], ◌∷◌, ◌++◌, length, length-append, Bool, true, false, nat_le, if◌then◌else◌, Option, Some, None, refl, ◌∙◌, arith, find}
+use Rattle.context_meaning.proofs.Common.{◌≡◌, ℕ, ◌+◌, ◌-◌, ◌≤◌, List, [], ◌∷◌, ◌++◌, length, length-append, Bool, true, false, nat_le, if◌then◌else◌, Option, Some, None, refl, ◌∙◌, arith, find, cond_both, Value, Program, Monitor, Site, TemplateShape, Effect, End, Act, Cargo, Instance, Listener, Context, apply, apply_all, charged, instance_of, is_busy, scene_of, spend, unless_spent, with_globals, with_instance, with_listener, without_instance, without_listeners, act_in, dying, fault_line, finished, idle, last_run, ondie_of, ran, run_in, taken, begun, births_in, body_number, callback_locals, completed, defaults_in, event_handled, fits, handled, is_born, is_empty, load_handled, stepped, stepped_born, stepped_found, template_of}
 use Rattle.std.specs.Prelude.{slice_get}
-use Rattle.std.proofs.lemmas.Bool.{cond_both}
-use Rattle.epl_values.specs.declared.value.Value.{Value}
-use Rattle.typed_program.specs.declared.program.Program.{Program}
-use Rattle.typed_program.specs.declared.program.Monitor.{Monitor}
-use Rattle.typed_program.specs.declared.program.Site.{Site}
-use Rattle.typed_program.specs.declared.term.TemplateShape.{TemplateShape}
-use Rattle.action_host.specs.declared.host.Effect.{Effect}
 use Rattle.action_host.specs.declared.host.Effect.TheVariants as effect
-use Rattle.action_host.specs.declared.host.End.{End}
 use Rattle.action_host.specs.declared.host.End.TheVariants as end
-use Rattle.body_meaning.specs.Acts.{Act}
-use Rattle.context_meaning.specs.declared.cargo.Cargo.{Cargo}
 use Rattle.context_meaning.specs.declared.cargo.Cargo.TheVariants as cargo
-use Rattle.context_meaning.specs.declared.context.Instance.{Instance}
-use Rattle.context_meaning.specs.declared.context.Listener.{Listener}
-use Rattle.context_meaning.specs.declared.context.Context.{Context}
-use Rattle.context_meaning.specs.Contexts.{apply, apply_all, charged, instance_of, is_busy, scene_of, spend, unless_spent, with_globals, with_instance, with_listener, without_instance, without_listeners}
-use Rattle.context_meaning.specs.Ends.{act_in, dying, ended, fault_line, finished, idle, last_run, ondie_of, ran, run_in, taken}
-use Rattle.context_meaning.specs.Turns.{begun, births_in, body_number, callback_locals, completed, defaults_in, event_handled, fits, handled, is_born, is_empty, load_handled, stepped, stepped_born, stepped_found, template_of, tested, turn}
+use Rattle.context_meaning.specs.Ends.{ended}
+use Rattle.context_meaning.specs.Turns.{tested, turn}
 use Rattle.context_meaning.proofs.Paying.{routed, routes}
 use Rattle.context_meaning.proofs.PayingActs.{ActPays, act_pays}
 

@@ -1,18 +1,11 @@
 -- Handling, with what waits in front, keeps a context's fit.
-use Rattle.std.proofs.Common.{ℕ, zero, suc, ◌+◌, ◌≤◌, List, [], ◌∷◌, length, nat_lt}
-use Rattle.std.proofs.lemmas.Bool.{cond_both}
-use Rattle.std.proofs.lemmas.List.Elements.{All-nil, All-head, All-tail, All-append}
-use Rattle.epl_values.specs.declared.value.Value.{Value, out-Value}
-use Rattle.typed_program.specs.declared.program.Program.{Program}
-use Rattle.typed_program.specs.Typed.{Typed}
+use Rattle.context_meaning.proofs.Common.{ℕ, zero, suc, ◌+◌, ◌≤◌, List, [], ◌∷◌, length, nat_lt, cond_both, All-nil, All-head, All-tail, Value, out-Value, Program, Typed, Cargo, Listener, Context, spend, unless_spent, drained, event_handled, first_handled, front_handled, handled, rowed, settled, CargoFits, ContextFits, InstanceFits, ListenerFits}
+use Rattle.std.proofs.lemmas.List.Elements.{All-append}
 use Rattle.value_shapes.specs.Fits.{IsEvent}
-use Rattle.context_meaning.specs.declared.cargo.Cargo.{Cargo}
 use Rattle.context_meaning.specs.declared.cargo.Cargo.TheVariants as cargo
-use Rattle.context_meaning.specs.declared.context.Listener.{Listener}
-use Rattle.context_meaning.specs.declared.context.Context.{Context}
-use Rattle.context_meaning.specs.Contexts.{fresh, spend, unless_spent}
-use Rattle.context_meaning.specs.Turns.{drained, event_handled, first_handled, front_handled, handle, handled, handled_whole, last_number, rowed, settled}
-use Rattle.context_meaning.specs.Fits.{AreEvents, CargoFits, ContextFits, InstanceFits, ListenerFits}
+use Rattle.context_meaning.specs.Contexts.{fresh}
+use Rattle.context_meaning.specs.Turns.{handle, handled_whole, last_number}
+use Rattle.context_meaning.specs.Fits.{AreEvents}
 use Rattle.context_meaning.proofs.Running.{RunsKeepShapes, spend_fits}
 use Rattle.context_meaning.proofs.Ending.{unless_fits}
 use Rattle.context_meaning.proofs.Turning.{event_fits, load_fits}

@@ -1,39 +1,22 @@
 -- Which bodies may run in an instance: `onload` and `ondie` of its monitor, and the callbacks of its listeners.
-use Rattle.std.proofs.Common.{◌≡◌, ℕ, zero, suc, ◌+◌, ◌-◌, ◌≤◌, List, [], ◌∷◌, ◌++◌, map, length, slice_get, Bool, true, Option, Some, None, refl, sym, ap, subst, ◌∙◌, arith, option_map, find}
-use Rattle.std.specs.List.{list_all}
-use Rattle.std.proofs.lemmas.Bool.{and_parts, and_from, eqb-true, lt-ltb, le-ltb, cond-true, cond-false, cond_both}
-use Rattle.std.proofs.lemmas.Option.{same_Some, slice_get_within, slice_get-map, cond_some}
-use Rattle.epl_values.specs.declared.shape.Shape.{Shape}
+use Rattle.context_meaning.proofs.Common.{◌≡◌, ℕ, zero, suc, ◌+◌, ◌-◌, ◌≤◌, List, [], ◌∷◌, ◌++◌, map, length, slice_get, Bool, true, Option, Some, None, refl, sym, ap, subst, ◌∙◌, arith, find, list_all, and_parts, eqb-true, cond_both, same_Some, slice_get_within, Shape, EventShape, Value, Value-F, out-Value, Pair, Program, Action, Monitor, Site, TemplateShape, Term, stands, ends_plain, runs_plain, Typed, default_of, AllFit, fit_nil, fit_cons, default_fits, head_of, Instance, Listener, is_instance, ondie_of, body_number, callback_locals, fits, template_of, ListenerFits, MayRun}
+use Rattle.std.proofs.Common.{option_map}
+use Rattle.std.proofs.lemmas.Bool.{and_from, lt-ltb, le-ltb, cond-true, cond-false}
+use Rattle.std.proofs.lemmas.Option.{slice_get-map, cond_some}
 use Rattle.epl_values.specs.declared.shape.Shape.TheVariants as shape
-use Rattle.epl_values.specs.declared.shape.EventShape.{EventShape}
-use Rattle.epl_values.specs.declared.value.Value.{Value, Value-F, out-Value}
 use Rattle.epl_values.specs.declared.value.Value.TheOpen as layer
-use Rattle.epl_values.specs.declared.value.Pair.{Pair}
-use Rattle.typed_program.specs.declared.program.Program.{Program}
-use Rattle.typed_program.specs.declared.program.Action.{Action}
-use Rattle.typed_program.specs.declared.program.Monitor.{Monitor}
-use Rattle.typed_program.specs.declared.program.Site.{Site}
 use Rattle.typed_program.specs.declared.program.Local.{Local}
-use Rattle.typed_program.specs.declared.term.TemplateShape.{TemplateShape}
-use Rattle.typed_program.specs.declared.term.Term.{Term, Term-F, out-Term, map-Term, fold_out-Term}
+use Rattle.typed_program.specs.declared.term.Term.{Term-F, out-Term, map-Term, fold_out-Term}
 use Rattle.typed_program.specs.declared.term.Term.TheOpen as term
-use Rattle.typed_program.specs.Shapes.{same, stands}
+use Rattle.typed_program.specs.Shapes.{same}
 use Rattle.typed_program.specs.Expressions.{if_known}
 use Rattle.typed_program.specs.Terms.{Around, binds_so, fits_term, template_so, term_so}
-use Rattle.typed_program.specs.Programs.{ends_plain, is_plain, monitor_so, monitors_so, runs_plain, site_around, site_so}
-use Rattle.typed_program.specs.Typed.{Typed}
-use Rattle.value_rules.specs.Defaults.{default_of}
-use Rattle.value_shapes.specs.Fits.{Fit, AllFit, IsEvent}
-use Rattle.value_shapes.proofs.Lists.{fit_nil, fit_cons, fit_append}
-use Rattle.value_shapes.proofs.Defaults.{default_fits}
+use Rattle.typed_program.specs.Programs.{is_plain, monitor_so, monitors_so, site_around, site_so}
+use Rattle.value_shapes.specs.Fits.{Fit, IsEvent}
+use Rattle.value_shapes.proofs.Lists.{fit_append}
 use Rattle.value_shapes.proofs.Same.{same_is}
-use Rattle.typed_runs.specs.Bodies.{action_head, callback_head, head_of}
-use Rattle.context_meaning.specs.declared.context.Instance.{Instance}
-use Rattle.context_meaning.specs.declared.context.Listener.{Listener}
-use Rattle.context_meaning.specs.Contexts.{is_instance}
-use Rattle.context_meaning.specs.Ends.{ondie_of}
-use Rattle.context_meaning.specs.Turns.{binds_at, body_number, bound_from, callback_locals, fits, is_of_type, is_plain as asks_nothing, plain_in, template_in, template_of, type_in}
-use Rattle.context_meaning.specs.Fits.{ListenerFits, MayRun}
+use Rattle.typed_runs.specs.Bodies.{action_head, callback_head}
+use Rattle.context_meaning.specs.Turns.{binds_at, bound_from, is_of_type, is_plain as asks_nothing, plain_in, template_in, type_in}
 
 -- ---- lists of which all pass a test
 

@@ -1,21 +1,6 @@
 -- What naive evaluation of a typed program keeps of its contexts, as the code that handles entries asks for it.
-use Rattle.std.proofs.Common.{◌≡◌, ℕ, ◌+◌, [], slice_get, true, Some, Contains, refl}
-use Rattle.std.proofs.lemmas.Option.{slice_get_within}
-use Rattle.epl_values.specs.declared.value.Value.{Value, out-Value}
-use Rattle.typed_program.specs.declared.program.Program.{Program}
-use Rattle.typed_program.specs.declared.program.Monitor.{Monitor}
-use Rattle.typed_program.specs.declared.program.Site.{Site}
-use Rattle.typed_program.specs.declared.term.TemplateShape.{TemplateShape}
-use Rattle.typed_program.specs.Typed.{Typed}
+use Rattle.context_meaning.proofs.Common.{◌≡◌, ℕ, ◌+◌, [], slice_get, true, Some, Contains, refl, slice_get_within, Value, out-Value, Program, Monitor, Site, TemplateShape, Typed, Cargo, Instance, Listener, Context, instance_of, with_instance, ondie_of, body_number, callback_locals, defaults_in, first_handled, fits, handled, rowed, stepped_born, template_of, CargoFits, ContextFits, MayRun}
 use Rattle.value_shapes.specs.Fits.{IsEvent}
-use Rattle.context_meaning.specs.declared.cargo.Cargo.{Cargo}
-use Rattle.context_meaning.specs.declared.context.Instance.{Instance}
-use Rattle.context_meaning.specs.declared.context.Listener.{Listener}
-use Rattle.context_meaning.specs.declared.context.Context.{Context}
-use Rattle.context_meaning.specs.Contexts.{instance_of, with_instance}
-use Rattle.context_meaning.specs.Ends.{ondie_of}
-use Rattle.context_meaning.specs.Turns.{body_number, callback_locals, defaults_in, first_handled, fits, handled, rowed, stepped_born, template_of}
-use Rattle.context_meaning.specs.Fits.{CargoFits, ContextFits, MayRun}
 use Rattle.context_meaning.proofs.Running.{RunsKeepShapes}
 use Rattle.context_meaning.proofs.Turning.{defaults_in_fit, instance_fits, instance_found, may_callback, may_ondie, may_onload, stepped_born_fits}
 use Rattle.context_meaning.proofs.Handling.{first_fits, handled_fits, rowed_fits}

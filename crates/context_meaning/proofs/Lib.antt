@@ -1,3 +1,4 @@
+mod Common
 pub mod Finding
 pub mod Births
 pub mod Running

@@ -1,21 +1,18 @@
 -- Runs pay for what they route: the fuel behind a run, with the events that it routed, is at most the fuel before it.
-use Rattle.std.proofs.Common.{◌≡◌, ℕ, ◌+◌, ◌≤◌, List, [], ◌∷◌, ◌++◌, Bool, true, false, nat_lt, nat_le, ◌==◌, Result, Ok, Err, refl, sym, subst, arith, leb-true}
-use Rattle.std.specs.List.{AllByRecursion}
-use Rattle.std.proofs.lemmas.Bool.{cond_both}
-use Rattle.epl_values.specs.declared.value.Value.{Value, Value-F, out-Value, map-Value, fold_out-Value}
+use Rattle.context_meaning.proofs.Common.{◌≡◌, ℕ, ◌+◌, ◌≤◌, List, [], ◌∷◌, ◌++◌, Bool, true, false, nat_lt, nat_le, Err, refl, sym, subst, arith, AllByRecursion, cond_both, Value, Value-F, out-Value, Pair, cost_of, Effect, Scene, Outcome, Went, Ended, M}
+use Rattle.std.proofs.Common.{◌==◌, Result, Ok, leb-true}
+use Rattle.epl_values.specs.declared.value.Value.{map-Value, fold_out-Value}
 use Rattle.epl_values.specs.declared.value.Value.TheOpen as layer
-use Rattle.epl_values.specs.declared.value.Pair.{Pair}
-use Rattle.value_rules.specs.Costs.{cost_of, cost_step, pair_cost, pair_step}
+use Rattle.value_rules.specs.Costs.{cost_step, pair_cost, pair_step}
 use Rattle.action_host.specs.declared.host.Fault.{Fault}
-use Rattle.action_host.specs.declared.host.Effect.{Effect}
 use Rattle.action_host.specs.declared.host.Effect.TheVariants as effect
 use Rattle.action_host.specs.declared.host.Answer.{Answer}
 use Rattle.action_host.specs.declared.host.Answer.TheVariants as answer
-use Rattle.action_host.specs.Scenes.{Scene, holds}
+use Rattle.action_host.specs.Scenes.{holds}
 use Rattle.action_host.specs.Replies.{Reply, listening, making, opening, reply, unsubscribing}
 use Rattle.body_meaning.specs.declared.run.Frame.{Frame}
 use Rattle.body_meaning.specs.declared.run.Halt.{Halt}
-use Rattle.body_meaning.specs.Runs.{State, Did, Outcome, Went, Ended, M, behind, then_do, ◌>>=◌, ◌>>◌, pure, halt, charge, charge_if, perform, settle, given, looked, look, by_scene, change, changed, choose, all_behind, all, two}
+use Rattle.body_meaning.specs.Runs.{State, Did, behind, then_do, ◌>>=◌, ◌>>◌, pure, halt, charge, charge_if, perform, settle, given, looked, look, by_scene, change, changed, choose, all_behind, all, two}
 use Rattle.body_meaning.specs.Effects.{route}
 
 -- ---- what is routed

@@ -1,21 +1,7 @@
 -- Whole runs pay for what they route.
-use Rattle.std.proofs.Common.{ℕ, zero, suc, ◌+◌, ◌-◌, ◌≤◌, nat_lt, length, List, [], ◌∷◌, ◌++◌, Option, Some, None}
+use Rattle.context_meaning.proofs.Common.{ℕ, zero, suc, ◌+◌, ◌-◌, ◌≤◌, nat_lt, length, List, [], ◌∷◌, ◌++◌, Option, Some, None, cond_both, Shape, Value, Program, Global, Action, Site, TypedExpr, Stmt, Scene, Flow, M, Outcome, Went, Ended, Calls, body_of, Act, act_of, come_to}
 use Rattle.std.specs.Prelude.{slice_get}
-use Rattle.std.proofs.lemmas.Bool.{cond_both}
-use Rattle.epl_values.specs.declared.shape.Shape.{Shape}
-use Rattle.epl_values.specs.declared.value.Value.{Value}
-use Rattle.typed_program.specs.declared.program.Program.{Program}
-use Rattle.typed_program.specs.declared.program.Global.{Global}
-use Rattle.typed_program.specs.declared.program.Action.{Action}
-use Rattle.typed_program.specs.declared.program.Site.{Site}
-use Rattle.typed_program.specs.declared.expression.TypedExpr.{TypedExpr}
-use Rattle.typed_program.specs.declared.statement.Stmt.{Stmt}
-use Rattle.action_host.specs.Scenes.{Scene}
-use Rattle.body_meaning.specs.declared.run.Flow.{Flow}
-use Rattle.body_meaning.specs.Runs.{M, Outcome, Went, Ended}
-use Rattle.body_meaning.specs.Expressions.{Calls}
-use Rattle.body_meaning.specs.Statements.{body_of}
-use Rattle.body_meaning.specs.Acts.{Act, act, act_of, action_run, begun_by, calls, come_to, defaults_of, enter, in_locals, initial_by, initials_from, run_of, runs, site_run}
+use Rattle.body_meaning.specs.Acts.{act, action_run, begun_by, calls, defaults_of, enter, in_locals, initial_by, initials_from, run_of, runs, site_run}
 use Rattle.context_meaning.proofs.Paying.{Pays, OutcomePays, routed, pays_pure, pays_given, pays_look, pays_charge, pays_change, pays_bind, pays_seq}
 use Rattle.context_meaning.proofs.PayingExprs.{CallsPay, expr_pays}
 use Rattle.context_meaning.proofs.PayingStmts.{body_pays}

@@ -1,14 +1,8 @@
 -- Effects and methods pay for what they route.
-use Rattle.std.proofs.Common.{ℕ, Bool, false, List, [], ◌∷◌, refl}
-use Rattle.epl_values.specs.declared.value.Value.{Value, Value-F, out-Value}
+use Rattle.context_meaning.proofs.Common.{ℕ, Bool, false, List, [], ◌∷◌, refl, Value, Value-F, out-Value, Pair, EventShape, Term, Method, M}
 use Rattle.epl_values.specs.declared.value.Value.TheOpen as layer
 use Rattle.epl_values.specs.declared.value.Value.TheVariants as value
-use Rattle.epl_values.specs.declared.value.Pair.{Pair}
-use Rattle.epl_values.specs.declared.shape.EventShape.{EventShape}
-use Rattle.typed_program.specs.declared.term.Term.{Term}
-use Rattle.typed_program.specs.declared.expression.Method.{Method}
 use Rattle.typed_program.specs.declared.expression.Method.TheVariants as method
-use Rattle.body_meaning.specs.Runs.{M}
 use Rattle.body_meaning.specs.Effects.{print, log, send, send_in, send_channel, send_context, spawn_here, spawn_there, globals_then, spawn_in, spawn_to, subscribe, unsubscribe, make, make_context, current, listen}
 use Rattle.body_meaning.specs.Methods.{text_charged, value_charged, substring_charged, place_charged, quit, change_lost, called}
 use Rattle.context_meaning.proofs.Paying.{Pays, pays_pure, pays_given, pays_look, pays_charge, pays_perform, pays_by_scene, pays_bind, pays_seq}

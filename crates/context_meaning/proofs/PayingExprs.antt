@@ -1,30 +1,22 @@
 -- Expressions pay for what they route: one induction over typed trees.
-use Rattle.std.proofs.Common.{◌≡◌, ℕ, List, [], ◌∷◌, ◌++◌, map, Option, Some, None, sym, subst}
-use Rattle.std.specs.List.{AllByRecursion}
-use Rattle.epl_values.specs.declared.shape.Shape.{Shape}
-use Rattle.epl_values.specs.declared.shape.EventShape.{EventShape}
-use Rattle.epl_values.specs.declared.value.Value.{Value}
+use Rattle.context_meaning.proofs.Common.{◌≡◌, ℕ, List, [], ◌∷◌, ◌++◌, map, Option, Some, None, sym, subst, AllByRecursion, Shape, EventShape, Value, Pair, Method, TypedExpr, TypedSuffix, Move, M, Calls, Reach, value_of}
 use Rattle.epl_values.specs.declared.value.Value.TheVariants as value
-use Rattle.epl_values.specs.declared.value.Pair.{Pair}
 use Rattle.epl_tree.specs.declared.expression.Operator.{Operator}
-use Rattle.typed_program.specs.declared.expression.Method.{Method}
 use Rattle.typed_program.specs.declared.expression.Method.TheVariants as method
 use Rattle.typed_program.specs.declared.statement.Variable.{Variable}
 use Rattle.typed_program.specs.declared.statement.Variable.TheVariants as variable
-use Rattle.typed_program.specs.declared.expression.TypedExpr.{TypedExpr, TypedExpr-F, map-TypedExpr, roll-TypedExpr, fold-roll-TypedExpr}
+use Rattle.typed_program.specs.declared.expression.TypedExpr.{TypedExpr-F, map-TypedExpr, roll-TypedExpr, fold-roll-TypedExpr}
 use Rattle.typed_program.specs.declared.expression.TypedNode.{TypedNode, TypedNode-F, map-TypedNode, roll-TypedNode, fold-TypedNode, fold-roll-TypedNode}
 use Rattle.typed_program.specs.declared.expression.TypedNode.TheOpen as node
 use Rattle.typed_program.specs.declared.expression.TypedLink.{TypedLink, TypedLink-F, map-TypedLink, roll-TypedLink, fold-TypedLink, fold-roll-TypedLink}
 use Rattle.typed_program.specs.declared.expression.TypedEntry.{TypedEntry, TypedEntry-F, map-TypedEntry, roll-TypedEntry, fold-TypedEntry, fold-roll-TypedEntry}
-use Rattle.typed_program.specs.declared.expression.TypedSuffix.{TypedSuffix, TypedSuffix-F, map-TypedSuffix, roll-TypedSuffix, fold-roll-TypedSuffix}
+use Rattle.typed_program.specs.declared.expression.TypedSuffix.{TypedSuffix-F, map-TypedSuffix, roll-TypedSuffix, fold-roll-TypedSuffix}
 use Rattle.typed_program.specs.declared.expression.TypedSuffixNode.{TypedSuffixNode, TypedSuffixNode-F, map-TypedSuffixNode, roll-TypedSuffixNode, fold-TypedSuffixNode, fold-roll-TypedSuffixNode}
 use Rattle.typed_program.specs.declared.expression.TypedNode.TheFolds.{ind-TypedExpr, ind-TypedSuffix}
-use Rattle.body_meaning.specs.declared.run.Move.{Move}
-use Rattle.body_meaning.specs.Runs.{M}
 use Rattle.body_meaning.specs.Values.{calculated, is_text}
 use Rattle.body_meaning.specs.Paths.{alter}
 use Rattle.body_meaning.specs.Methods.{changed_by}
-use Rattle.body_meaning.specs.Expressions.{Calls, Change, Meant, Place, Reach, Pairing, Linking, NodeMeant, or_from, and_from, xor_from, operate, links_from, entries_behind, reach_from, with_move, moves_of, further, place_behind, change_at_end, but_last, change_place, run_at, postfix_value, postfix, valued, read, values_of, change_by, reach_by, node_meant, step_meant, entry_meant, expr_meant, link_meant, suffix_meant, meaning_of, reach_of, value_of, all_values}
+use Rattle.body_meaning.specs.Expressions.{Change, Meant, Place, Pairing, Linking, NodeMeant, or_from, and_from, xor_from, operate, links_from, entries_behind, reach_from, with_move, moves_of, further, place_behind, change_at_end, but_last, change_place, run_at, postfix_value, postfix, valued, read, values_of, change_by, reach_by, node_meant, step_meant, entry_meant, expr_meant, link_meant, suffix_meant, meaning_of, reach_of, all_values}
 use Rattle.context_meaning.proofs.Paying.{Pays, pays_pure, pays_given, pays_look, pays_change, pays_bind, pays_seq, pays_choose, pays_all, pays_two}
 use Rattle.context_meaning.proofs.PayingCalls.{pays_text, pays_called, pays_make_context, pays_current}
 

@@ -1,26 +1,16 @@
 -- Statements pay for what they route.
-use Rattle.std.proofs.Common.{◌≡◌, ℕ, zero, suc, List, [], ◌∷◌, map, Option, Some, None, sym, subst, Err}
+use Rattle.context_meaning.proofs.Common.{◌≡◌, ℕ, zero, suc, List, [], ◌∷◌, map, Option, Some, None, sym, subst, Err, AllByRecursion, EventShape, Value, cost_of, Site, TypedExpr, TypedSuffix, Stmt, Flow, Move, M, Calls, Reach, value_of, body_of}
 use Rattle.std.specs.Prelude.{slice_get}
-use Rattle.std.specs.List.{AllByRecursion}
-use Rattle.epl_values.specs.declared.shape.EventShape.{EventShape}
-use Rattle.epl_values.specs.declared.value.Value.{Value}
-use Rattle.value_rules.specs.Costs.{cost_of}
-use Rattle.typed_program.specs.declared.program.Site.{Site}
-use Rattle.typed_program.specs.declared.expression.TypedExpr.{TypedExpr}
-use Rattle.typed_program.specs.declared.expression.TypedSuffix.{TypedSuffix}
 use Rattle.typed_program.specs.declared.statement.TypedPlace.{TypedPlace}
-use Rattle.typed_program.specs.declared.statement.Stmt.{Stmt, Stmt-F, map-Stmt, roll-Stmt, fold-roll-Stmt, ind-Stmt}
+use Rattle.typed_program.specs.declared.statement.Stmt.{Stmt-F, map-Stmt, roll-Stmt, fold-roll-Stmt, ind-Stmt}
 use Rattle.typed_program.specs.declared.statement.Stmt.TheOpen as stmt
 use Rattle.action_host.specs.declared.host.Fault.TheVariants as fault
-use Rattle.body_meaning.specs.declared.run.Flow.{Flow}
 use Rattle.body_meaning.specs.declared.run.Flow.TheVariants.{Next, Broke, Continued, Returned}
 use Rattle.body_meaning.specs.declared.run.Halt.TheVariants.{Died, Spent}
-use Rattle.body_meaning.specs.declared.run.Move.{Move}
-use Rattle.body_meaning.specs.Runs.{M}
 use Rattle.body_meaning.specs.Values.{items_of, truth_of}
 use Rattle.body_meaning.specs.Paths.{set_local, store}
-use Rattle.body_meaning.specs.Expressions.{Calls, Reach, reach_of, value_of}
-use Rattle.body_meaning.specs.Statements.{again, assign, begun, body_of, done, each, elements_of, for_of, is_next, level_number, listen_at, listener_of, move_of, moves_in, place_moves, returned, row, set, spawned, stmt_meant, stmt_of, turns, while_of}
+use Rattle.body_meaning.specs.Expressions.{reach_of}
+use Rattle.body_meaning.specs.Statements.{again, assign, begun, done, each, elements_of, for_of, is_next, level_number, listen_at, listener_of, move_of, moves_in, place_moves, returned, row, set, spawned, stmt_meant, stmt_of, turns, while_of}
 use Rattle.context_meaning.proofs.Paying.{Pays, pays_pure, pays_halt, pays_look, pays_charge, pays_change, pays_bind, pays_seq, pays_choose, pays_all, pays_route, pays_given}
 use Rattle.context_meaning.proofs.PayingCalls.{pays_print, pays_log, pays_send, pays_spawn_here, pays_spawn_to, pays_globals, pays_subscribe, pays_unsubscribe, pays_listen}
 use Rattle.context_meaning.proofs.PayingExprs.{AllPay, CallsPay, MovePays, StepPays, expr_pays, step_pays, values_paid}

@@ -1,26 +1,12 @@
 -- What a run comes to keeps a context's fit.
-use Rattle.std.proofs.Common.{◌≡◌, ℕ, ◌+◌, ◌<◌, ◌≤◌, List, [], ◌∷◌, ◌++◌, filter, slice_get, Bool, true, false, if◌then◌else◌, Option, Some, None, All, refl, sym, ap, subst, ◌∙◌, arith}
-use Rattle.std.proofs.lemmas.Option.{same_Some}
-use Rattle.std.proofs.lemmas.List.Elements.{All-head, All-tail, All-filter, All-push, All-weaker}
-use Rattle.epl_values.specs.declared.value.Value.{Value, out-Value}
-use Rattle.typed_program.specs.declared.program.Program.{Program}
-use Rattle.typed_program.specs.declared.program.Site.{Site}
-use Rattle.typed_program.specs.Typed.{Typed}
-use Rattle.action_host.specs.declared.host.Effect.{Effect}
+use Rattle.context_meaning.proofs.Common.{◌≡◌, ℕ, ◌+◌, ◌<◌, ◌≤◌, List, [], ◌∷◌, ◌++◌, filter, slice_get, Bool, true, false, if◌then◌else◌, Option, Some, None, All, refl, sym, ap, subst, ◌∙◌, arith, same_Some, All-head, All-tail, All-filter, All-push, All-weaker, Value, out-Value, Program, Site, Typed, Effect, Scene, Outcome, Went, Ended, Act, act_of, come_to, AllFit, head_of, GlobalsFit, Instance, Listener, Context, instance_of, is_instance, scene_of, spend, put_globals, with_globals, with_listener, apply, apply_all, taken, act_in, InstanceFits, ListenerFits, ContextFits, MayRun}
 use Rattle.action_host.specs.declared.host.Effect.TheVariants as effect
-use Rattle.action_host.specs.Scenes.{Scene}
-use Rattle.body_meaning.specs.Runs.{Outcome, Went, Ended}
-use Rattle.body_meaning.specs.Acts.{Act, act, act_of, come_to}
-use Rattle.value_shapes.specs.Fits.{AllFit, IsEvent}
-use Rattle.typed_runs.specs.Bodies.{Head, head_of, GlobalsFit}
+use Rattle.body_meaning.specs.Acts.{act}
+use Rattle.value_shapes.specs.Fits.{IsEvent}
+use Rattle.typed_runs.specs.Bodies.{Head}
 use Rattle.typed_runs.specs.Kept.{RunFits, EffectFits, ListenFits}
 use Rattle.context_meaning.specs.declared.cargo.Line.{Line}
-use Rattle.context_meaning.specs.declared.context.Instance.{Instance}
-use Rattle.context_meaning.specs.declared.context.Listener.{Listener}
-use Rattle.context_meaning.specs.declared.context.Context.{Context}
-use Rattle.context_meaning.specs.Contexts.{instance_of, is_instance, scene_of, spend, put_globals, with_globals, with_line, with_listener, apply, apply_all}
-use Rattle.context_meaning.specs.Ends.{taken, act_in}
-use Rattle.context_meaning.specs.Fits.{InstanceFits, ListenerFits, ContextFits, MayRun}
+use Rattle.context_meaning.specs.Contexts.{with_line}
 use Rattle.context_meaning.proofs.Finding.{find_all, find_put, all_put, number_is}
 use Rattle.context_meaning.proofs.Births.{ascend_push, ascend_filter}
 

@@ -1,10 +1,5 @@
 -- What waits in front is settled: each event that is handled leaves less fuel or fewer in front.
-use Rattle.std.proofs.Common.{◌≡◌, ℕ, zero, suc, ◌+◌, ◌<◌, ◌≤◌, List, [], ◌∷◌, length, length-append, Bool, true, false, if◌then◌else◌, ◌-◌, ◌⊎◌, inl, inr, ⊎_elim, refl, sym, ap, ◌∙◌, arith}
-use Rattle.epl_values.specs.declared.value.Value.{Value}
-use Rattle.typed_program.specs.declared.program.Program.{Program}
-use Rattle.context_meaning.specs.declared.context.Context.{Context}
-use Rattle.context_meaning.specs.Contexts.{unless_spent}
-use Rattle.context_meaning.specs.Turns.{drained, event_handled, first_handled, front_handled, rowed, settled}
+use Rattle.context_meaning.proofs.Common.{◌≡◌, ℕ, zero, suc, ◌+◌, ◌<◌, ◌≤◌, List, [], ◌∷◌, length, length-append, Bool, true, false, if◌then◌else◌, ◌-◌, ◌⊎◌, inl, inr, ⊎_elim, refl, sym, ap, ◌∙◌, arith, Value, Program, Context, unless_spent, drained, event_handled, first_handled, front_handled, rowed, settled}
 use Rattle.context_meaning.proofs.Falling.{Falls, event_falls}
 
 -- fuel, and what waits in front

@@ -1,30 +1,9 @@
 -- Turns of listeners, events and new instances keep a context's fit.
-use Rattle.std.proofs.Common.{◌≡◌, ℕ, ◌+◌, ◌-◌, ◌<◌, ◌≤◌, List, [], ◌∷◌, ◌++◌, map, length, slice_get, true, nat_le, Option, Some, None, Contains, ⊎_elim, refl, sym, ap, subst, arith, find, eqb-true}
-use Rattle.std.specs.List.{list_all}
-use Rattle.std.proofs.lemmas.Bool.{and_parts, cond_both}
-use Rattle.std.proofs.lemmas.Option.{slice_get_within}
-use Rattle.std.proofs.lemmas.List.Elements.{All-contains, All-push, All-weaker}
-use Rattle.epl_values.specs.declared.value.Value.{Value, out-Value}
-use Rattle.typed_program.specs.declared.program.Program.{Program}
-use Rattle.typed_program.specs.declared.program.Monitor.{Monitor}
-use Rattle.typed_program.specs.declared.program.Global.{Global}
-use Rattle.typed_program.specs.declared.program.Site.{Site}
-use Rattle.typed_program.specs.declared.term.TemplateShape.{TemplateShape}
-use Rattle.typed_program.specs.Shapes.{stands}
-use Rattle.typed_program.specs.Programs.{ends_plain, global_shapes, global_so, initial_so, runs_plain}
-use Rattle.typed_program.specs.Typed.{Typed}
-use Rattle.value_rules.specs.Defaults.{default_of}
-use Rattle.value_shapes.specs.Fits.{AllFit, IsEvent}
-use Rattle.value_shapes.proofs.Lists.{fit_nil, fit_cons}
-use Rattle.value_shapes.proofs.Defaults.{default_fits}
-use Rattle.typed_runs.specs.Bodies.{GlobalsFit}
-use Rattle.context_meaning.specs.declared.context.Instance.{Instance}
-use Rattle.context_meaning.specs.declared.context.Listener.{Listener}
-use Rattle.context_meaning.specs.declared.context.Context.{Context}
-use Rattle.context_meaning.specs.Contexts.{charged, instance_of, is_instance, spend, unless_spent, with_instance}
-use Rattle.context_meaning.specs.Ends.{ondie_of, ran}
-use Rattle.context_meaning.specs.Turns.{begun, births_in, body_number, callback_locals, completed, defaults_in, event_handled, fits, is_born, is_empty, load_handled, stepped, stepped_born, stepped_found, template_of, tested, turn}
-use Rattle.context_meaning.specs.Fits.{InstanceFits, ListenerFits, ContextFits, MayRun}
+use Rattle.context_meaning.proofs.Common.{◌≡◌, ℕ, ◌+◌, ◌-◌, ◌<◌, ◌≤◌, List, [], ◌∷◌, ◌++◌, map, length, slice_get, true, nat_le, Option, Some, None, Contains, ⊎_elim, refl, sym, ap, subst, arith, find, list_all, and_parts, cond_both, slice_get_within, All-contains, All-push, All-weaker, Value, out-Value, Program, Monitor, Global, Site, TemplateShape, stands, ends_plain, runs_plain, Typed, default_of, AllFit, fit_nil, fit_cons, default_fits, GlobalsFit, Instance, Listener, Context, charged, instance_of, is_instance, spend, unless_spent, with_instance, ondie_of, ran, begun, births_in, body_number, callback_locals, completed, defaults_in, event_handled, fits, is_born, is_empty, load_handled, stepped, stepped_born, stepped_found, template_of, InstanceFits, ListenerFits, ContextFits, MayRun}
+use Rattle.std.proofs.Common.{eqb-true}
+use Rattle.typed_program.specs.Programs.{global_shapes, global_so, initial_so}
+use Rattle.value_shapes.specs.Fits.{IsEvent}
+use Rattle.context_meaning.specs.Turns.{tested, turn}
 use Rattle.context_meaning.proofs.Finding.{find_contains, find_push, number_is}
 use Rattle.context_meaning.proofs.Running.{RunsKeepShapes, found_fits, fuel_fits, spend_fits}
 use Rattle.context_meaning.proofs.Heads.{callback_may, monitor_there, ondie_may, onload_may}

@@ -1,7 +1,7 @@
 -- Contexts: instances, listeners, lines and fuel, and how each effect of a body changes them.
-use Rattle.std.specs.Prelude.{ℕ, ◌+◌, ◌-◌, List, [], ◌∷◌, ◌++◌, Bool, true, false, not, ◌==◌, nat_le, if◌then◌else◌, filter, Option}
-use Rattle.std.specs.List.{list_any, find}
-use Rattle.epl_values.specs.declared.value.Value.{Value}
+use Rattle.context_meaning.specs.Common.{ℕ, ◌+◌, List, [], ◌∷◌, ◌++◌, Bool, true, false, not, ◌==◌, if◌then◌else◌, Option, find, Value}
+use Rattle.std.specs.Prelude.{◌-◌, nat_le, filter}
+use Rattle.std.specs.List.{list_any}
 use Rattle.action_host.specs.declared.host.Effect.{Effect}
 use Rattle.action_host.specs.declared.host.Effect.TheVariants as effect
 use Rattle.action_host.specs.Scenes.{Scene}

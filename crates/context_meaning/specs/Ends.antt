@@ -1,8 +1,5 @@
 -- Runs of bodies in an instance, and how an instance ends.
-use Rattle.std.specs.Prelude.{ℕ, List, [], Bool, true, false, if◌then◌else◌, Option, Some, None, slice_get}
-use Rattle.epl_values.specs.declared.value.Value.{Value}
-use Rattle.typed_program.specs.declared.program.Program.{Program}
-use Rattle.typed_program.specs.declared.program.Monitor.{Monitor}
+use Rattle.context_meaning.specs.Common.{ℕ, List, [], Bool, true, false, if◌then◌else◌, Option, Some, None, slice_get, Value, Program, Monitor}
 use Rattle.action_host.specs.declared.host.Fault.{Fault}
 use Rattle.action_host.specs.declared.host.End.{End}
 use Rattle.action_host.specs.declared.host.End.TheVariants as end

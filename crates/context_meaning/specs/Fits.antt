@@ -1,9 +1,7 @@
 -- Contexts of typed programs: instances and listeners have what their monitors and sites say, and what waits in front are events.
-use Rattle.std.specs.Prelude.{◌≡◌, ℕ, ◌≤◌, ◌<◌, List, [], ◌∷◌, map, Some, slice_get, length}
-use Rattle.std.specs.List.{All, find}
-use Rattle.epl_values.specs.declared.value.Value.{Value, out-Value}
-use Rattle.typed_program.specs.declared.program.Program.{Program}
-use Rattle.typed_program.specs.declared.program.Site.{Site}
+use Rattle.context_meaning.specs.Common.{ℕ, List, [], ◌∷◌, map, Some, slice_get, length, find, Value, out-Value, Program, Site}
+use Rattle.std.specs.Prelude.{◌≡◌, ◌≤◌, ◌<◌}
+use Rattle.std.specs.List.{All}
 use Rattle.value_shapes.specs.Fits.{AllFit, IsEvent}
 use Rattle.typed_runs.specs.Bodies.{Head, head_of, GlobalsFit}
 use Rattle.context_meaning.specs.declared.cargo.Cargo.{Cargo}

@@ -1,16 +1,13 @@
 -- How a context handles an entry, and what waits in front.
-use Rattle.std.specs.Prelude.{ℕ, zero, suc, ◌+◌, ◌^◌, List, [], ◌∷◌, ◌++◌, Bool, true, false, ◌&&◌, not, ◌==◌, nat_lt, if◌then◌else◌, length, map, Option, Some, None, is_some, slice_get}
-use Rattle.std.specs.List.{find}
+use Rattle.context_meaning.specs.Common.{ℕ, ◌+◌, List, [], ◌∷◌, ◌++◌, Bool, true, false, not, ◌==◌, if◌then◌else◌, length, map, Option, Some, None, slice_get, find, Value, out-Value, Program, Site, Monitor}
+use Rattle.std.specs.Prelude.{zero, suc, ◌^◌, ◌&&◌, nat_lt, is_some}
 use Rattle.epl_values.specs.declared.shape.EventShape.{EventShape}
-use Rattle.epl_values.specs.declared.value.Value.{Value, Value-F, out-Value}
+use Rattle.epl_values.specs.declared.value.Value.{Value-F}
 use Rattle.epl_values.specs.declared.value.Value.TheOpen as layer
 use Rattle.epl_values.specs.declared.value.Pair.{Pair}
 use Rattle.epl_tree.specs.declared.event.Mode.{Mode}
 use Rattle.epl_tree.specs.declared.event.Mode.TheVariants as mode
-use Rattle.typed_program.specs.declared.program.Program.{Program}
-use Rattle.typed_program.specs.declared.program.Site.{Site}
 use Rattle.typed_program.specs.declared.program.Local.{Local}
-use Rattle.typed_program.specs.declared.program.Monitor.{Monitor}
 use Rattle.typed_program.specs.declared.term.TemplateShape.{TemplateShape}
 use Rattle.typed_program.specs.declared.term.Term.{Term, Term-F, out-Term}
 use Rattle.typed_program.specs.declared.term.Term.TheOpen as term

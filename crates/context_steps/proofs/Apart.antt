@@ -1,22 +1,10 @@
 -- What waits in front has no part in how an event is handled.
-use Rattle.std.proofs.Common.{ℕ, ◌-◌, Bool, true, false, cond, List, [], ◌∷◌, Option, Some, None, slice_get, ◌≡◌, refl, sym, ap, ◌∙◌}
-use Rattle.std.specs.Prelude.{nat_le}
-use Rattle.std.specs.List.{find}
-use Rattle.epl_values.specs.declared.value.Value.{Value}
-use Rattle.typed_program.specs.declared.program.Program.{Program}
-use Rattle.action_host.specs.declared.host.Effect.{Effect}
+use Rattle.context_steps.proofs.Common.{ℕ, ◌-◌, Bool, true, false, cond, List, [], ◌∷◌, Option, Some, None, slice_get, ◌≡◌, refl, sym, ap, ◌∙◌, nat_le, find, Value, Program, Effect, End, Act, Context, Instance, apply, apply_all, charged, instance_of, spend, unless_spent, act_in, fault_line, finished, idle, last_run, ondie_of, ran, run_in, taken, event_handled, is_born, stepped_born, Call, call_found, with_front}
 use Rattle.action_host.specs.declared.host.Effect.TheVariants as effect
-use Rattle.action_host.specs.declared.host.End.{End}
 use Rattle.action_host.specs.declared.host.End.TheVariants as end
-use Rattle.body_meaning.specs.Acts.{Act}
-use Rattle.context_meaning.specs.declared.context.Context.{Context}
-use Rattle.context_meaning.specs.declared.context.Instance.{Instance}
-use Rattle.context_meaning.specs.Contexts.{apply, apply_all, charged, instance_of, is_busy, spend, unless_spent, with_globals, with_listener, without_instance, without_listeners}
-use Rattle.context_meaning.specs.Ends.{act_in, dying, ended, fault_line, finished, idle, last_run, ondie_of, ran, run_in, taken}
-use Rattle.context_meaning.specs.Turns.{births_in, event_handled, is_born, is_empty, stepped_born, turn}
-use Rattle.context_steps.specs.declared.turns.Call.{Call}
-use Rattle.context_steps.specs.Calls.{call_found}
-use Rattle.context_steps.specs.Fronts.{with_front}
+use Rattle.context_meaning.specs.Contexts.{is_busy, with_globals, with_listener, without_instance, without_listeners}
+use Rattle.context_meaning.specs.Ends.{dying, ended}
+use Rattle.context_meaning.specs.Turns.{births_in, is_empty, turn}
 use Rattle.context_steps.proofs.Callbacks.{called, called_born}
 
 -- ---- effects

@@ -1,8 +1,8 @@
 -- The names that a template binds.
-use Rattle.std.proofs.Common.{ℕ, suc, ◌+◌, ◌<◌, add-one, List, [], ◌∷◌, ◌++◌, Option, ◌≡◌, sym, ap, ◌∙◌, length, drop, get_or, append_assoc}
+use Rattle.context_steps.proofs.Common.{ℕ, suc, ◌+◌, ◌<◌, List, [], ◌∷◌, ◌++◌, Option, ◌≡◌, sym, ap, ◌∙◌, length, Value}
+use Rattle.std.proofs.Common.{add-one, drop, get_or, append_assoc}
 use Rattle.std.proofs.Math.Seq.{drop-cons}
 use Rattle.epl_values.specs.declared.shape.EventShape.{EventShape}
-use Rattle.epl_values.specs.declared.value.Value.{Value}
 use Rattle.typed_program.specs.declared.program.Local.{Local}
 use Rattle.context_meaning.specs.Turns.{bound_from}
 use Rattle.context_steps.specs.Calls.{bound_value}

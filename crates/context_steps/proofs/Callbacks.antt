@@ -1,23 +1,13 @@
 -- The callback that an event lets run at a listener.
-use Rattle.std.proofs.Common.{ℕ, suc, ◌-◌, Bool, true, false, cond, List, [], ◌∷◌, Option, Some, None, slice_get, ◌≡◌, refl, sym, ap, subst, ◌∙◌, arith}
-use Rattle.std.specs.Prelude.{nat_le}
-use Rattle.std.specs.List.{find, Contains}
-use Rattle.epl_values.specs.declared.value.Value.{Value, out-Value}
-use Rattle.typed_program.specs.declared.program.Program.{Program}
+use Rattle.context_steps.proofs.Common.{ℕ, suc, ◌-◌, Bool, true, false, cond, List, [], ◌∷◌, Option, Some, None, slice_get, ◌≡◌, refl, sym, ap, subst, ◌∙◌, arith, nat_le, find, Value, Program, GlobalsFit, Context, Instance, Listener, charged, spend, unless_spent, is_instance, instance_of, ran, is_born, stepped_born, ContextFits, Call, CanRunIn, Keeps, call_found}
+use Rattle.std.specs.List.{Contains}
+use Rattle.epl_values.specs.declared.value.Value.{out-Value}
 use Rattle.typed_program.specs.declared.program.Site.{Site}
 use Rattle.typed_program.specs.declared.term.TemplateShape.{TemplateShape}
 use Rattle.value_shapes.specs.Fits.{IsEvent}
-use Rattle.typed_runs.specs.Bodies.{GlobalsFit}
-use Rattle.context_meaning.specs.declared.context.Context.{Context}
-use Rattle.context_meaning.specs.declared.context.Instance.{Instance}
-use Rattle.context_meaning.specs.declared.context.Listener.{Listener}
-use Rattle.context_meaning.specs.Contexts.{charged, spend, unless_spent, is_instance, instance_of}
-use Rattle.context_meaning.specs.Ends.{ran}
-use Rattle.context_meaning.specs.Turns.{template_of, fits, is_born, completed, tested, stepped, stepped_found, stepped_born}
-use Rattle.context_meaning.specs.Fits.{ContextFits, InstanceFits}
-use Rattle.context_steps.specs.declared.turns.Call.{Call}
-use Rattle.context_steps.specs.Steps.{CanRunIn, Keeps}
-use Rattle.context_steps.specs.Calls.{call_at, call_tested, call_stepped, call_found, paid}
+use Rattle.context_meaning.specs.Turns.{template_of, fits, completed, tested, stepped, stepped_found}
+use Rattle.context_meaning.specs.Fits.{InstanceFits}
+use Rattle.context_steps.specs.Calls.{call_at, call_tested, call_stepped, paid}
 
 -- ---- what is found stands in the list
 

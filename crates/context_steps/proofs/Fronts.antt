@@ -1,17 +1,13 @@
 -- Loads, and what waits in front.
-use Rattle.std.proofs.Common.{ℕ, zero, suc, ◌+◌, ◌-◌, ◌<◌, Bool, true, false, cond, List, [], ◌∷◌, Some, slice_get, ◌≡◌, refl, sym, ap, subst, ◌∙◌, arith, ◌++◌, reverse}
+use Rattle.context_steps.proofs.Common.{ℕ, zero, suc, ◌+◌, ◌-◌, ◌<◌, Bool, true, false, cond, List, [], ◌∷◌, Some, slice_get, ◌≡◌, refl, sym, ap, subst, ◌∙◌, arith, ◌++◌, Value, Program, Context, unless_spent, ran, event_handled, ContextFits, CanRunIn, Keeps, with_front}
+use Rattle.std.proofs.Common.{reverse}
 use Rattle.std.proofs.lemmas.List.{reverse-append}
-use Rattle.epl_values.specs.declared.value.Value.{Value}
-use Rattle.typed_program.specs.declared.program.Program.{Program}
 use Rattle.typed_program.specs.declared.program.Monitor.{Monitor}
-use Rattle.context_meaning.specs.declared.context.Context.{Context}
 use Rattle.context_meaning.specs.declared.cargo.Cargo.{Cargo}
-use Rattle.context_meaning.specs.Contexts.{with_instance, unless_spent}
-use Rattle.context_meaning.specs.Ends.{ran}
-use Rattle.context_meaning.specs.Turns.{defaults_in, first_handled, front_handled, drained, rowed, handled, event_handled}
-use Rattle.context_meaning.specs.Fits.{ContextFits, CargoFits}
-use Rattle.context_steps.specs.Steps.{CanRunIn, Keeps}
-use Rattle.context_steps.specs.Fronts.{with_front, Waits}
+use Rattle.context_meaning.specs.Contexts.{with_instance}
+use Rattle.context_meaning.specs.Turns.{defaults_in, first_handled, front_handled, drained, rowed, handled}
+use Rattle.context_meaning.specs.Fits.{CargoFits}
+use Rattle.context_steps.specs.Fronts.{Waits}
 use Rattle.context_steps.proofs.Apart.{event_apart}
 use Rattle.context_steps.proofs.Callbacks.{can_globals}
 

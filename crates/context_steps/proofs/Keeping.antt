@@ -1,9 +1,8 @@
 -- What naive evaluation of a typed program keeps.
-use Rattle.typed_program.specs.declared.program.Program.{Program}
+use Rattle.context_steps.proofs.Common.{Program, Keeps}
 use Rattle.typed_program.specs.Typed.{Typed}
 use Rattle.context_meaning.proofs.Running.{RunsKeepShapes}
 use Rattle.context_meaning.proofs.Kept.{kept_ondie, kept_begun, kept_onload, kept_callback, kept_stepped, kept_handled, kept_rowed, kept_first}
-use Rattle.context_steps.specs.Steps.{Keeps}
 
 pub keeps_of : (program : Program) → Typed program → RunsKeepShapes → Keeps program
 keeps_of program typed law = record {

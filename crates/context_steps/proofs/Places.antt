@@ -1,12 +1,8 @@
 -- The first instance with a number, and its place.
-use Rattle.std.proofs.Common.{ℕ, zero, suc, ◌+◌, ◌<◌, ◌≤◌, Bool, true, false, cond, List, [], ◌∷◌, length, Option, Some, None, MatchOption, slice_set, ◌≡◌, refl, sym, ap, subst, ◌∙◌, ltb, eqb, arith}
-use Rattle.std.specs.List.{find, position, position_or_len}
+use Rattle.context_steps.proofs.Common.{ℕ, zero, suc, ◌+◌, ◌<◌, ◌≤◌, Bool, true, false, cond, List, [], ◌∷◌, length, Option, Some, None, slice_set, ◌≡◌, refl, sym, ap, subst, ◌∙◌, ltb, eqb, arith, find, nat_tests, Value, Instance, is_instance, put_globals, FoundAt}
+use Rattle.std.proofs.Common.{MatchOption}
+use Rattle.std.specs.List.{position, position_or_len}
 use Rattle.std.proofs.lemmas.List.Recursion.{is_position_or_len}
-use Rattle.std.proofs.lemmas.Bool.Decides.{nat_tests}
-use Rattle.epl_values.specs.declared.value.Value.{Value}
-use Rattle.context_meaning.specs.declared.context.Instance.{Instance}
-use Rattle.context_meaning.specs.Contexts.{is_instance, put_globals}
-use Rattle.context_steps.specs.Steps.{FoundAt}
 
 -- the place of the first one, or how many there are
 abbrev rank : ℕ → List Instance → ℕ

@@ -1,8 +1,5 @@
 -- Effects in a row.
-use Rattle.std.proofs.Common.{ℕ, Bool, List, [], ◌∷◌, ◌++◌, ◌≡◌, refl, sym, ap, ◌∙◌}
-use Rattle.action_host.specs.declared.host.Effect.{Effect}
-use Rattle.context_meaning.specs.declared.context.Context.{Context}
-use Rattle.context_meaning.specs.Contexts.{apply, apply_all}
+use Rattle.context_steps.proofs.Common.{ℕ, Bool, List, [], ◌∷◌, ◌++◌, ◌≡◌, refl, sym, ap, ◌∙◌, Effect, Context, apply, apply_all}
 
 -- effects, and then further ones
 pub apply_all_both : (i : ℕ) (ending : Bool) (es fs : List Effect) (c : Context) → apply_all i ending (es ++ fs) c ≡ apply_all i ending fs (apply_all i ending es c)

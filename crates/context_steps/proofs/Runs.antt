@@ -1,21 +1,16 @@
 -- Runs of bodies in instances.
-use Rattle.std.proofs.Common.{ℕ, ◌-◌, ◌<◌, ◌^◌, Bool, List, [], ◌++◌, Option, Some, None, slice_get, slice_set, ◌≡◌, refl, sym, ap, subst, ◌∙◌}
-use Rattle.std.specs.List.{find}
-use Rattle.epl_values.specs.declared.value.Value.{Value}
-use Rattle.typed_program.specs.declared.program.Program.{Program}
-use Rattle.typed_runs.specs.Bodies.{head_of, GlobalsFit, HeadFits, BodyFits, StillFit}
-use Rattle.action_host.specs.declared.host.End.{End}
+use Rattle.context_steps.proofs.Common.{ℕ, ◌-◌, ◌<◌, Bool, List, [], ◌++◌, Option, Some, None, slice_get, slice_set, ◌≡◌, refl, sym, ap, subst, ◌∙◌, find, Value, Program, GlobalsFit, End, Act, Context, Instance, is_instance, instance_of, put_globals, apply_all, act_in, taken, run_in, last_run, finished, ondie_of, fault_line, idle, FoundAt, CanRunIn, Keeps}
+use Rattle.std.proofs.Common.{◌^◌}
+use Rattle.typed_runs.specs.Bodies.{head_of, HeadFits, BodyFits, StillFit}
 use Rattle.action_host.specs.declared.host.End.TheVariants as end
 use Rattle.action_host.specs.Scenes.{Scene}
 use Rattle.action_host.specs.Told.{Told}
-use Rattle.body_meaning.specs.Acts.{Act, act_of}
+use Rattle.body_meaning.specs.Acts.{act_of}
 use Rattle.tree_walker.specs.Comes.{Comes}
-use Rattle.context_meaning.specs.declared.context.Context.{Context}
-use Rattle.context_meaning.specs.declared.context.Instance.{Instance}
-use Rattle.context_meaning.specs.Contexts.{scene_of, is_instance, instance_of, put_globals, apply_all}
-use Rattle.context_meaning.specs.Ends.{act_in, taken, run_in, last_run, finished, ondie_of, fault_line, idle, ended}
+use Rattle.context_meaning.specs.Contexts.{scene_of}
+use Rattle.context_meaning.specs.Ends.{ended}
 use Rattle.context_meaning.specs.Fits.{MayRun}
-use Rattle.context_steps.specs.Steps.{FoundAt, CanRun, CanRunIn, Stands, Came, Keeps, numbered, told_first}
+use Rattle.context_steps.specs.Steps.{CanRun, Stands, Came, numbered, told_first}
 use Rattle.context_steps.proofs.Places.{found_put, set_set}
 
 -- ---- before a run

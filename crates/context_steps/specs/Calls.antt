@@ -1,16 +1,11 @@
 -- The callbacks that an event lets run, and charges.
-use Rattle.std.specs.Prelude.{ℕ, suc, ◌-◌, if◌then◌else◌, nat_le, nat_lt, List, [], ◌∷◌, Option, Some, None, slice_get}
+use Rattle.context_steps.specs.Common.{ℕ, ◌-◌, List, [], Some, slice_get, Value, Program, Site, TemplateShape, Context, Listener, template_of, fits, body_number, callback_locals}
+use Rattle.std.specs.Prelude.{suc, if◌then◌else◌, nat_le, nat_lt, ◌∷◌, Option, None}
 use Rattle.epl_values.specs.declared.shape.EventShape.{EventShape}
-use Rattle.epl_values.specs.declared.value.Value.{Value}
-use Rattle.typed_program.specs.declared.program.Program.{Program}
-use Rattle.typed_program.specs.declared.program.Site.{Site}
 use Rattle.typed_program.specs.declared.program.Local.{Local}
-use Rattle.typed_program.specs.declared.term.TemplateShape.{TemplateShape}
 use Rattle.value_rules.specs.Defaults.{default_of}
-use Rattle.context_meaning.specs.declared.context.Context.{Context}
-use Rattle.context_meaning.specs.declared.context.Listener.{Listener}
 use Rattle.context_meaning.specs.Contexts.{spend}
-use Rattle.context_meaning.specs.Turns.{template_of, fits, binds_at, body_number, callback_locals}
+use Rattle.context_meaning.specs.Turns.{binds_at}
 use Rattle.context_steps.specs.declared.turns.Call.{Call}
 
 -- the value of a name that a template binds

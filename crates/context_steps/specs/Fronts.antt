@@ -1,9 +1,6 @@
 -- Contexts with what waits in front beside them.
-use Rattle.std.specs.Prelude.{◌≡◌, List, [], reverse}
-use Rattle.epl_values.specs.declared.value.Value.{Value}
-use Rattle.typed_program.specs.declared.program.Program.{Program}
-use Rattle.context_meaning.specs.declared.context.Context.{Context}
-use Rattle.context_meaning.specs.Fits.{ContextFits}
+use Rattle.context_steps.specs.Common.{◌≡◌, List, [], Value, Program, Context, ContextFits}
+use Rattle.std.specs.Prelude.{reverse}
 
 abbrev pub with_front : List Value → Context → Context
 with_front events c = record c { front = events }

@@ -1,24 +1,20 @@
 -- What runs of bodies ask of the context that they run in, and what they come to.
-use Rattle.std.specs.Prelude.{◌≡◌, ℕ, ◌+◌, ◌<◌, ◌-◌, ◌^◌, Bool, true, List, [], Some, length, slice_get, slice_set}
+use Rattle.context_steps.specs.Common.{◌≡◌, ℕ, ◌-◌, List, [], Some, slice_get, Value, Program, Site, TemplateShape, Context, Listener, template_of, fits, body_number, callback_locals, ContextFits}
+use Rattle.std.specs.Prelude.{◌+◌, ◌<◌, ◌^◌, Bool, true, length, slice_set}
 use Rattle.std.specs.List.{find, Contains}
-use Rattle.epl_values.specs.declared.value.Value.{Value, out-Value}
-use Rattle.typed_program.specs.declared.program.Program.{Program}
+use Rattle.epl_values.specs.declared.value.Value.{out-Value}
 use Rattle.typed_program.specs.declared.program.Monitor.{Monitor}
-use Rattle.typed_program.specs.declared.program.Site.{Site}
-use Rattle.typed_program.specs.declared.term.TemplateShape.{TemplateShape}
 use Rattle.value_shapes.specs.Fits.{IsEvent}
 use Rattle.typed_runs.specs.Bodies.{GlobalsFit}
 use Rattle.action_host.specs.declared.host.End.{End}
 use Rattle.action_host.specs.Scenes.{Scene}
 use Rattle.action_host.specs.Told.{Told}
 use Rattle.context_meaning.specs.declared.cargo.Cargo.{Cargo}
-use Rattle.context_meaning.specs.declared.context.Context.{Context}
 use Rattle.context_meaning.specs.declared.context.Instance.{Instance}
-use Rattle.context_meaning.specs.declared.context.Listener.{Listener}
 use Rattle.context_meaning.specs.Contexts.{is_instance, instance_of, put_globals, with_instance}
 use Rattle.context_meaning.specs.Ends.{act_in, taken, ondie_of}
-use Rattle.context_meaning.specs.Turns.{template_of, fits, body_number, callback_locals, stepped_born, defaults_in, handled, rowed, first_handled}
-use Rattle.context_meaning.specs.Fits.{ContextFits, CargoFits, MayRun}
+use Rattle.context_meaning.specs.Turns.{stepped_born, defaults_in, handled, rowed, first_handled}
+use Rattle.context_meaning.specs.Fits.{CargoFits, MayRun}
 
 -- ---- instances by number
 

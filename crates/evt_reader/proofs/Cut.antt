@@ -1,12 +1,11 @@
 -- A file cut into its first line and the rest.
-use Rattle.std.proofs.Common.{◌≡◌, ℕ, ◌+◌, ◌-◌, ◌<◌, ◌≤◌, List, [], ◌∷◌, length, take, drop, cond, ◌==◌, Some, refl, sym, ◌∙◌, ap, arith, length-drop}
+use Rattle.evt_reader.proofs.Common.{◌≡◌, ℕ, ◌+◌, ◌-◌, ◌<◌, ◌≤◌, List, [], ◌∷◌, length, take, drop, cond, ◌==◌, Some, refl, sym, ◌∙◌, ap, arith, lines, ne_eqb, TakesOff}
+use Rattle.std.proofs.Common.{length-drop}
 use Rattle.std.specs.List.{position_or_len, slice_split, before_first, after_first}
-use Rattle.std.specs.Str.Lines.{lines, lines_of_parts, strip_carriage_return}
-use Rattle.std.proofs.lemmas.Bool.{ne_eqb}
+use Rattle.std.specs.Str.Lines.{lines_of_parts, strip_carriage_return}
 use Rattle.std.proofs.lemmas.List.{drop_all, take_rest}
 use Rattle.std.proofs.lemmas.List.Splits.{slice_split_first, slice_split_none, length-slice_split}
 use Rattle.std.proofs.lemmas.List.Sums.{fails_before_first}
-use Rattle.evt_reader.specs.Steps.{TakesOff}
 
 parts-front : (x : List ℕ) (parts : List (List ℕ)) → 0 < length parts → lines_of_parts (x ∷ parts) ≡ strip_carriage_return x ∷ lines_of_parts parts
 parts-front x [] l = absurd (omega arith)

@@ -1,26 +1,21 @@
 -- What is spelled fits its shape, and so the items of a file fit the program.
-use Rattle.std.proofs.Common.{ℕ, zero, suc, List, [], ◌∷◌, ◌++◌, map, Bool, true, false, Option, Some, None, Ok, sym, subst}
-use Rattle.std.specs.List.{flat_map}
-use Rattle.std.specs.Option.{option_to_list}
+use Rattle.evt_reader.proofs.Common.{ℕ, zero, suc, List, [], ◌∷◌, ◌++◌, Bool, true, false, Option, Some, None, Ok, sym, subst, flat_map, option_to_list, EventShape, Value, Item, Event, Spells, AreLines, GivesItems, IsLine, lines_of}
+use Rattle.std.proofs.Common.{map}
 use Rattle.std.proofs.lemmas.List.Elements.{All-cons, All-nil}
 use Rattle.epl_values.specs.declared.shape.Shape.{Shape, Shape-F, out-Shape, roll-Shape, roll-out-Shape}
 use Rattle.epl_values.specs.declared.shape.Shape.TheFolds.{fold_out-Shape, map-Shape}
 use Rattle.epl_values.specs.declared.shape.Shape.TheOpen as layer
 use Rattle.epl_values.specs.declared.shape.Shape.TheVariants as shape
 use Rattle.epl_values.specs.declared.shape.Field.{Field}
-use Rattle.epl_values.specs.declared.shape.EventShape.{EventShape}
-use Rattle.epl_values.specs.declared.value.Value.{Value}
 use Rattle.typed_program.specs.declared.program.Program.{Program}
 use Rattle.event_types.specs.Types.{fields_of}
 use Rattle.value_shapes.specs.Fits.{Fit, AllFit}
 use Rattle.value_shapes.proofs.Lists.{fit_nil, fit_cons}
 use Rattle.value_shapes.proofs.Made.{event_made, integer_fits, is_event_fits, text_fits}
-use Rattle.naive_meaning.specs.declared.entry.Item.{Item}
-use Rattle.naive_meaning.specs.declared.entry.Item.TheVariants.{Event}
 use Rattle.naive_meaning.specs.Fits.{ItemFits, ItemsFit}
 use Rattle.event_types.specs.Types.{Form, form_of, form_step}
-use Rattle.evt_text.specs.Spelling.{Spells, SpellsFields, SpellsForm, SpellsWithin}
-use Rattle.evt_reader.specs.Files.{AreItems, AreLines, GivesItems, IsLine, lines_of}
+use Rattle.evt_text.specs.Spelling.{SpellsFields, SpellsForm, SpellsWithin}
+use Rattle.evt_reader.specs.Files.{AreItems}
 
 module _ (types : List EventShape) where
   -- what `P` spells fits the shape

@@ -1,3 +1,4 @@
+mod Common
 pub mod Cut
 pub mod Fitting
 pub mod Lined

@@ -1,17 +1,10 @@
 -- The items of a file, line by line.
-use Rattle.std.proofs.Common.{◌≡◌, ℕ, zero, suc, ◌+◌, ◌<◌, ◌≤◌, List, [], ◌∷◌, ◌++◌, length, take, ◌&&◌, ◌==◌, Option, Some, None, Result, Ok, Err, slice_get, refl, sym, ◌∙◌, ap, arith, append_assoc, append-nil, length-append, inl, inr}
-use Rattle.std.specs.List.{flat_map}
-use Rattle.std.specs.Option.{option_to_list}
-use Rattle.std.specs.Result.{IsErrAnd}
-use Rattle.std.specs.Str.Lines.{lines}
+use Rattle.evt_reader.proofs.Common.{◌≡◌, ℕ, zero, suc, ◌+◌, ◌<◌, ◌≤◌, List, [], ◌∷◌, ◌++◌, length, take, ◌&&◌, ◌==◌, Option, Some, None, Result, Ok, Err, slice_get, refl, sym, ◌∙◌, ap, arith, append_assoc, length-append, inl, inr, flat_map, option_to_list, IsErrAnd, lines, same_Some, err_from_is_err_and, EventShape, Item, AreEventTypes, IsLine, AreLines, lines_of, GivesItems, TakesOff}
+use Rattle.std.proofs.Common.{append-nil}
 use Rattle.std.proofs.lemmas.Bool.{cases_order, cond_both}
-use Rattle.std.proofs.lemmas.Option.{none-some, same_Some}
-use Rattle.std.proofs.lemmas.Result.{err_from_is_err_and}
-use Rattle.epl_values.specs.declared.shape.EventShape.{EventShape}
-use Rattle.naive_meaning.specs.declared.entry.Item.{Item}
-use Rattle.evt_text.specs.Forms.{AreEventTypes}
-use Rattle.evt_reader.specs.Files.{without_mark, IsLine, AreLines, lines_of, GivesItems}
-use Rattle.evt_reader.specs.Steps.{TakesLine, TakesOff}
+use Rattle.std.proofs.lemmas.Option.{none-some}
+use Rattle.evt_reader.specs.Files.{without_mark}
+use Rattle.evt_reader.specs.Steps.{TakesLine}
 use Rattle.evt_reader.specs.declared.fault.LineFault.{LineFault}
 use Rattle.evt_reader.specs.declared.fault.LineFault.TheVariants.{Line, Memory}
 use Rattle.evt_reader.proofs.Meanings.{line-same}

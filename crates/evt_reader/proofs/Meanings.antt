@@ -1,28 +1,23 @@
 -- What a line says, and that it says no more than one thing.
-use Rattle.std.proofs.Common.{◌≡◌, ℕ, ◌-◌, ◌≤◌, List, [], ◌∷◌, ◌++◌, length, take, drop, Bool, true, false, cond, ◌||◌, ◌&&◌, ◌==◌, nat_le, Option, Some, None, Result, Err, refl, sym, subst, ◌∙◌, ap, arith, append_assoc, length-append, inl, inr, eqb-true}
+use Rattle.evt_reader.proofs.Common.{◌≡◌, ℕ, ◌-◌, ◌≤◌, List, [], ◌∷◌, ◌++◌, length, take, drop, Bool, true, false, cond, ◌&&◌, ◌==◌, Option, Some, None, Result, Err, refl, sym, subst, ◌∙◌, ap, arith, append_assoc, length-append, inl, inr, ne_eqb, IsErrAnd, err_from_is_err_and, EventShape, Value, Item, Event, AreEventTypes, Spells, IsLine, HasName, LacksName}
+use Rattle.std.proofs.Common.{◌||◌, nat_le, eqb-true}
 use Rattle.std.specs.List.{AllByRecursion, slice_range}
 use Rattle.std.specs.Str.{IsUtf8}
-use Rattle.std.proofs.lemmas.Bool.{or_cases, or_left, and_parts, and_from, false≢true, leb-true, ne_eqb}
-use Rattle.std.specs.Result.{IsErrAnd}
-use Rattle.std.proofs.lemmas.Result.{err_from_is_err_and}
+use Rattle.std.proofs.lemmas.Bool.{or_cases, or_left, and_parts, and_from, false≢true, leb-true}
 use Rattle.evt_text.specs.declared.fault.TextFault.{TextFault}
 use Rattle.evt_text.specs.declared.fault.TextFault.TheVariants.{NoValue, Memory}
 use Rattle.std.proofs.lemmas.List.{take_at}
 use Rattle.std.proofs.lemmas.List.Folds.{drop_split}
-use Rattle.epl_values.specs.declared.shape.EventShape.{EventShape}
 use Rattle.epl_values.specs.declared.shape.Shape.TheVariants as shape
-use Rattle.epl_values.specs.declared.value.Value.{Value}
-use Rattle.naive_meaning.specs.declared.entry.Item.{Item}
-use Rattle.naive_meaning.specs.declared.entry.Item.TheVariants.{Event}
-use Rattle.evt_text.specs.Forms.{is_letter, is_digit, IsName, HasNames, AreEventTypes}
-use Rattle.evt_text.specs.Spelling.{is_blank, AreBlanks, Spells, SpellsAt, FindsValue}
+use Rattle.evt_text.specs.Forms.{is_letter, is_digit, IsName, HasNames}
+use Rattle.evt_text.specs.Spelling.{is_blank, AreBlanks, SpellsAt, FindsValue}
 use Rattle.evt_text.specs.Reading.{behind_blanks}
 use Rattle.evt_text.proofs.Spelled.{blanks-read}
 use Rattle.evt_text.proofs.Respelled.{blanks-again}
 use Rattle.evt_text.proofs.Renested.{name-of}
 use Rattle.evt_text.proofs.Events.{EndsName, event-same, event-name}
-use Rattle.evt_reader.specs.Files.{IsNothing, IsEvent, Says, IsLine}
-use Rattle.evt_reader.specs.Steps.{name_front, HasName, LacksName, FindsEvent, FindsMeaning, are_blanks, is_slash, is_nothing}
+use Rattle.evt_reader.specs.Files.{IsNothing, IsEvent, Says}
+use Rattle.evt_reader.specs.Steps.{name_front, FindsEvent, FindsMeaning, are_blanks, is_slash, is_nothing}
 
 -- blanks
 pub blanks-test : (bs : List ℕ) → are_blanks bs ≡ true → AreBlanks bs

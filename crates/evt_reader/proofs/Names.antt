@@ -1,13 +1,10 @@
 -- The event types up to a place.
-use Rattle.std.proofs.Common.{◌≡◌, ℕ, ◌+◌, ◌<◌, ◌≤◌, List, length, Some, slice_get, sym, ◌∙◌, ap, arith, inl, inr}
+use Rattle.evt_reader.proofs.Common.{◌≡◌, ℕ, ◌+◌, ◌<◌, ◌≤◌, List, length, Some, slice_get, sym, ◌∙◌, ap, arith, inl, inr, same_Some, EventShape, HasName, LacksName}
 use Rattle.std.proofs.lemmas.Bool.{cases_eq}
-use Rattle.std.proofs.lemmas.Option.{same_Some}
-use Rattle.epl_values.specs.declared.shape.EventShape.{EventShape}
 use Rattle.epl_values.specs.declared.shape.Shape.TheVariants.{Event}
 use Rattle.event_types.specs.Types.{form_of, types_in, AreTypes}
 use Rattle.evt_text.proofs.Nesting.{form_of-event}
 use Rattle.evt_text.proofs.Events.{get-below}
-use Rattle.evt_reader.specs.Steps.{HasName, LacksName}
 
 pub lacks-more : (types : List EventShape) (name : List ℕ) (at k : ℕ) (event : EventShape) → ((j : ℕ) → j < at → HasName types name j → ⊥) → slice_get types at ≡ Some event → (event.name ≡ name → ⊥)
     → k < at + 1 → HasName types name k → ⊥

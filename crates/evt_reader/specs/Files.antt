@@ -1,13 +1,9 @@
 -- Event files: what their lines mean.
-use Rattle.std.specs.Prelude.{◌≡◌, ℕ, ◌+◌, ◌≤◌, ◌⊎◌, List, [], ◌∷◌, ◌++◌, length, take, ◌&&◌, ◌==◌, if◌then◌else◌, Option, Some, None, Result, Ok, Err, slice_get}
+use Rattle.evt_reader.specs.Common.{◌≡◌, ℕ, List, [], ◌∷◌, ◌++◌, length, ◌&&◌, ◌==◌, if◌then◌else◌, Option, Some, None, Result, Ok, Err, slice_get, option_to_list, lines, EventShape, Value, Item}
+use Rattle.std.specs.Prelude.{◌+◌, ◌≤◌, ◌⊎◌, take}
 use Rattle.std.specs.List.{flat_map}
-use Rattle.std.specs.Option.{option_to_list}
 use Rattle.std.specs.Str.{IsUtf8}
-use Rattle.std.specs.Str.Lines.{lines}
-use Rattle.epl_values.specs.declared.shape.EventShape.{EventShape}
 use Rattle.epl_values.specs.declared.shape.Shape.TheVariants as shape
-use Rattle.epl_values.specs.declared.value.Value.{Value}
-use Rattle.naive_meaning.specs.declared.entry.Item.{Item}
 use Rattle.naive_meaning.specs.declared.entry.Item.TheVariants.{Event}
 use Rattle.evt_text.specs.Spelling.{AreBlanks, Spells}
 use Rattle.evt_reader.specs.declared.fault.LineFault.{LineFault}

@@ -1,10 +1,6 @@
 -- What the steps of reading an event file give.
-use Rattle.std.specs.Prelude.{◌≡◌, ℕ, ◌<◌, List, [], ◌∷◌, ◌++◌, length, Bool, true, false, ◌||◌, ◌&&◌, ◌==◌, if◌then◌else◌, Option, Some, None, Result, Ok, Err, slice_get}
-use Rattle.std.specs.Option.{option_to_list}
-use Rattle.std.specs.Str.Lines.{lines}
-use Rattle.epl_values.specs.declared.shape.EventShape.{EventShape}
-use Rattle.epl_values.specs.declared.value.Value.{Value}
-use Rattle.naive_meaning.specs.declared.entry.Item.{Item}
+use Rattle.evt_reader.specs.Common.{◌≡◌, ℕ, List, [], ◌∷◌, ◌++◌, length, ◌&&◌, ◌==◌, if◌then◌else◌, Option, Some, None, Result, Ok, Err, slice_get, option_to_list, lines, EventShape, Value, Item}
+use Rattle.std.specs.Prelude.{◌<◌, Bool, true, false, ◌||◌}
 use Rattle.evt_text.specs.Forms.{is_letter, is_digit}
 use Rattle.evt_text.specs.Spelling.{is_blank}
 use Rattle.evt_text.specs.declared.fault.TextFault.{TextFault}

@@ -1,8 +1,7 @@
 -- Tests and readings that gave something, taken apart.
-use Rattle.std.proofs.Common.{◌≡◌, List, [], ◌++◌, Bool, true, false, cond, Option, Some, None, refl, ap, ◌⊎◌, inl, inr, append_assoc}
-use Rattle.std.specs.Option.{option_map}
-use Rattle.std.proofs.lemmas.Option.{same_Some}
-use Rattle.evt_text.specs.Reading.{◌>>=◌, with_front}
+use Rattle.evt_text.proofs.Common.{◌≡◌, List, [], ◌++◌, Bool, true, false, cond, Option, Some, None, refl, ap, inl, inr, append_assoc, option_map, same_Some, with_front}
+use Rattle.std.proofs.Common.{◌⊎◌}
+use Rattle.evt_text.specs.Reading.{◌>>=◌}
 
 -- a test that was made, and where it led
 pub chosen : {A : Type 0} (b : Bool) (x y z : A) → cond b x y ≡ z → ((b ≡ true) × (x ≡ z)) ⊎ ((b ≡ false) × (y ≡ z))

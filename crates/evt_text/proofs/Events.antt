@@ -1,14 +1,7 @@
 -- The spellings of events at one place.
-use Rattle.std.proofs.Common.{◌≡◌, ℕ, zero, suc, ◌+◌, ◌<◌, List, [], ◌∷◌, ◌++◌, length, false, ◌||◌, ◌==◌, Some, refl, sym, ◌∙◌, ap, arith, append_assoc, inl, inr, eqb-true}
-use Rattle.std.specs.List.{slice_get}
-use Rattle.std.proofs.lemmas.Bool.{or_cases}
-use Rattle.std.proofs.lemmas.Option.{none-some}
-use Rattle.epl_values.specs.declared.shape.EventShape.{EventShape}
-use Rattle.epl_values.specs.declared.shape.Shape.TheVariants.{Event}
-use Rattle.epl_values.specs.declared.value.Value.{Value}
-use Rattle.evt_text.specs.Forms.{is_letter, is_digit, HasNames}
-use Rattle.event_types.specs.Types.{EventForm, HasKnownFields, HasNoCycle}
-use Rattle.evt_text.specs.Spelling.{AreBlanks, SpellsWithin, Spells}
+use Rattle.evt_text.proofs.Common.{◌≡◌, ℕ, zero, suc, ◌+◌, ◌<◌, List, [], ◌∷◌, ◌++◌, length, false, ◌||◌, ◌==◌, Some, refl, sym, ◌∙◌, ap, arith, append_assoc, inl, inr, slice_get, or_cases, none-some, EventShape, Event, Value, is_letter, is_digit, HasNames, EventForm, HasKnownFields, HasNoCycle, AreBlanks, SpellsWithin}
+use Rattle.std.proofs.Common.{eqb-true}
+use Rattle.evt_text.specs.Spelling.{Spells}
 use Rattle.evt_text.specs.Reading.{value_from}
 use Rattle.evt_text.proofs.Cases.{pair-some}
 use Rattle.evt_text.proofs.Nesting.{form_of-event}

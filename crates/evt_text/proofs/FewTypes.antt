@@ -1,12 +1,9 @@
 -- No event type, or one whose fields name no event types.
-use Rattle.std.proofs.Common.{◌≡◌, ℕ, zero, suc, List, [], ◌∷◌, refl, arith}
-use Rattle.std.specs.List.{AllByRecursion, flat_map}
-use Rattle.std.proofs.lemmas.Option.{none-some}
-use Rattle.epl_values.specs.declared.shape.Field.{Field}
-use Rattle.epl_values.specs.declared.shape.EventShape.{EventShape}
+use Rattle.evt_text.proofs.Common.{◌≡◌, ℕ, zero, suc, List, [], ◌∷◌, refl, arith, AllByRecursion, none-some, Field, EventShape, IsName, types_in, types_held, HasNoCycle}
+use Rattle.std.specs.List.{flat_map}
 use Rattle.event_types.proofs.Depths.{none-known, none-cycle}
-use Rattle.evt_text.specs.Forms.{IsName, AreEventTypes}
-use Rattle.event_types.specs.Types.{form_of, types_in, types_held, IsAmong, HasDistinctNames, HasNoCycle}
+use Rattle.evt_text.specs.Forms.{AreEventTypes}
+use Rattle.event_types.specs.Types.{form_of, IsAmong, HasDistinctNames}
 
 abbrev pub ArePlain : List Field → Type 0
 ArePlain fields = AllByRecursion (λ f. types_in (form_of f.shape) ≡ []) fields

@@ -1,17 +1,12 @@
 -- The longest spelling at a place of a text.
-use Rattle.std.proofs.Common.{◌≡◌, ℕ, ◌+◌, ◌-◌, ◌<◌, ◌≤◌, List, [], ◌∷◌, ◌++◌, length, take, drop, get_or, Some, None, Result, Ok, Err, sym, ◌∙◌, ap, arith, length-append, length-drop, add-zero}
+use Rattle.evt_text.proofs.Common.{◌≡◌, ℕ, ◌+◌, ◌-◌, ◌<◌, ◌≤◌, List, [], ◌∷◌, ◌++◌, length, take, drop, get_or, Some, None, sym, ◌∙◌, ap, arith, length-append, IsCharBoundary, take_at, none-some, Shape, EventShape, Value, HasNames, types_in, HasKnownFields, HasNoCycle}
+use Rattle.std.proofs.Common.{Result, Ok, Err, length-drop, add-zero}
 use Rattle.std.specs.List.{slice_range}
-use Rattle.std.specs.Str.{IsCharBoundary}
-use Rattle.std.proofs.lemmas.List.{take_at, get_or-drop}
+use Rattle.std.proofs.lemmas.List.{get_or-drop}
 use Rattle.std.proofs.lemmas.List.Folds.{drop_split}
 use Rattle.std.specs.Result.{IsErrAnd}
 use Rattle.std.proofs.lemmas.Result.{err_from_is_err_and}
-use Rattle.std.proofs.lemmas.Option.{none-some}
-use Rattle.epl_values.specs.declared.shape.Shape.{Shape}
-use Rattle.epl_values.specs.declared.shape.EventShape.{EventShape}
-use Rattle.epl_values.specs.declared.value.Value.{Value}
-use Rattle.evt_text.specs.Forms.{HasNames}
-use Rattle.event_types.specs.Types.{form_of, types_in, AreTypes, HasKnownFields, HasNoCycle}
+use Rattle.event_types.specs.Types.{form_of, AreTypes}
 use Rattle.evt_text.specs.Spelling.{SpellsAt, FindsValue}
 use Rattle.evt_text.specs.Reading.{Reads, value_from}
 use Rattle.evt_text.specs.declared.fault.TextFault.{TextFault}

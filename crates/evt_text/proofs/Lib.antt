@@ -1,3 +1,4 @@
+mod Common
 pub mod Cases
 pub mod Digits
 pub mod Events

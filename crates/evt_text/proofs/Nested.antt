@@ -1,14 +1,9 @@
 -- What is read as a value is spelled so.
-use Rattle.std.proofs.Common.{◌≡◌, ℕ, zero, suc, List, [], ◌∷◌, ◌++◌, Bool, true, false, Option, Some, None, refl, sym, ◌∙◌, ap, append_assoc}
-use Rattle.std.specs.List.{slice_get}
-use Rattle.std.proofs.lemmas.Option.{none-some, same_Some}
-use Rattle.epl_values.specs.declared.shape.Field.{Field}
-use Rattle.epl_values.specs.declared.shape.EventShape.{EventShape}
-use Rattle.epl_values.specs.declared.value.Value.{Value}
+use Rattle.evt_text.proofs.Common.{◌≡◌, ℕ, zero, suc, List, [], ◌∷◌, ◌++◌, Bool, true, false, Option, Some, None, refl, sym, ◌∙◌, ap, append_assoc, slice_get, none-some, same_Some, Field, EventShape, Value, Form, IntegerForm, BooleanForm, TextForm, SequenceForm, DictionaryForm, EventForm, ContextForm, ListenerForm, AreBlanks, IsLead, SpellsFields, SpellsEvent, SpellsWithin, with_front, behind_sign, behind_name, behind_blanks, fields_from, form_at}
 use Rattle.epl_values.specs.declared.value.Value.TheVariants as value
-use Rattle.event_types.specs.Types.{Form, IntegerForm, BooleanForm, TextForm, SequenceForm, DictionaryForm, EventForm, ContextForm, ListenerForm, form_of}
-use Rattle.evt_text.specs.Spelling.{AreBlanks, IsLead, SpellsFields, SpellsEvent, SpellsForm, SpellsWithin}
-use Rattle.evt_text.specs.Reading.{◌>>=◌, with_front, behind_sign, behind_name, behind_blanks, behind_lead, integer_at, string_at, field_at, fields_from, event_at, typed_at, form_at, value_from}
+use Rattle.event_types.specs.Types.{form_of}
+use Rattle.evt_text.specs.Spelling.{SpellsForm}
+use Rattle.evt_text.specs.Reading.{◌>>=◌, behind_lead, integer_at, string_at, field_at, event_at, typed_at, value_from}
 use Rattle.evt_text.proofs.Cases.{bind-some, map-some, pair-some}
 use Rattle.evt_text.proofs.Fronts.{behind_sign-is, behind_name-is}
 use Rattle.evt_text.proofs.Spelled.{integer-read, string-read, blanks-read}

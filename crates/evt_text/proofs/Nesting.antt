@@ -1,12 +1,10 @@
 -- Values inside values.
-use Rattle.std.proofs.Common.{◌≡◌, ℕ, zero, suc, ◌-◌, ◌<◌, List, Option, None, refl, arith, sub-one, rules, ◌≤◌, length}
-use Rattle.epl_values.specs.declared.shape.EventShape.{EventShape}
-use Rattle.epl_values.specs.declared.shape.Shape.{Shape, the_lemmas}
-use Rattle.epl_values.specs.declared.shape.Shape.TheVariants.{Event}
-use Rattle.epl_values.specs.declared.value.Value.{Value}
+use Rattle.evt_text.proofs.Common.{◌≡◌, ℕ, zero, suc, ◌-◌, ◌<◌, List, Option, None, refl, arith, ◌≤◌, length, EventShape, Shape, Event, Value, Form, EventForm, form_at}
+use Rattle.std.proofs.Common.{sub-one, rules}
+use Rattle.epl_values.specs.declared.shape.Shape.{the_lemmas}
 use Rattle.std.proofs.lemmas.Option.{slice_get_past}
-use Rattle.event_types.specs.Types.{Form, EventForm, form_of}
-use Rattle.evt_text.specs.Reading.{form_at, value_from}
+use Rattle.event_types.specs.Types.{form_of}
+use Rattle.evt_text.specs.Reading.{value_from}
 
 pub value_from-zero : (depth : ℕ) (types : List EventShape) (form : Form) (text : List ℕ) → depth ≡ 0 → value_from depth types form text ≡ None
 unfolding value_from

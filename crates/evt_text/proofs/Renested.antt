@@ -1,18 +1,9 @@
 -- What is spelled as a value is read again.
-use Rattle.std.proofs.Common.{◌≡◌, ℕ, ℤ, zero, suc, ◌<◌, ◌≤◌, List, [], ◌∷◌, ◌++◌, length, Bool, true, false, ◌||◌, ◌&&◌, ◌==◌, nat_le, Option, Some, refl, ◌∙◌, arith, append_assoc, inl, inr}
-use Rattle.std.specs.List.{AllByRecursion, slice_get}
-use Rattle.std.specs.Str.Parse.{IsNumeral}
-use Rattle.std.proofs.lemmas.Bool.{or_cases, or_from, and_parts, leb-true, ne_eqb, eqb-true}
-use Rattle.std.proofs.lemmas.Str.Parse.{digit_from_value}
-use Rattle.std.proofs.lemmas.Option.{none-some, same_Some}
-use Rattle.epl_values.specs.declared.shape.Field.{Field}
-use Rattle.epl_values.specs.declared.shape.EventShape.{EventShape}
-use Rattle.epl_values.specs.declared.value.Value.{Value}
+use Rattle.evt_text.proofs.Common.{◌≡◌, ℕ, ℤ, zero, suc, ◌<◌, ◌≤◌, List, [], ◌∷◌, ◌++◌, length, Bool, true, false, ◌||◌, ◌&&◌, ◌==◌, nat_le, Option, Some, refl, ◌∙◌, arith, append_assoc, inl, inr, AllByRecursion, slice_get, IsNumeral, or_cases, and_parts, leb-true, ne_eqb, eqb-true, digit_from_value, none-some, same_Some, Field, EventShape, Value, is_letter, is_digit, IsName, HasNames, Form, IntegerForm, BooleanForm, TextForm, SequenceForm, DictionaryForm, EventForm, ContextForm, ListenerForm, types_in, types_held, AreBlanks, is_blank, IsLead, SpellsInteger, SpellsFields, SpellsEvent, SpellsWithin, behind_blanks, fields_from, form_at}
+use Rattle.std.proofs.lemmas.Bool.{or_from}
 use Rattle.epl_values.specs.declared.value.Value.TheVariants as value
-use Rattle.evt_text.specs.Forms.{is_letter, is_digit, IsName, HasNames}
-use Rattle.event_types.specs.Types.{Form, IntegerForm, BooleanForm, TextForm, SequenceForm, DictionaryForm, EventForm, ContextForm, ListenerForm, form_of, types_in, types_held}
-use Rattle.evt_text.specs.Spelling.{AreBlanks, is_blank, IsLead, SpellsInteger, SpellsFields, SpellsEvent, SpellsWithin}
-use Rattle.evt_text.specs.Reading.{behind_blanks, behind_lead, integer_at, string_at, field_at, fields_from, event_at, form_at, value_from}
+use Rattle.event_types.specs.Types.{form_of}
+use Rattle.evt_text.specs.Reading.{behind_lead, integer_at, string_at, field_at, event_at, value_from}
 use Rattle.evt_text.proofs.Fronts.{behind_name-at}
 use Rattle.evt_text.proofs.Respelled.{EndsNumber, integer-again, integer-covers, string-again, blanks-again}
 use Rattle.evt_text.proofs.Nested.{Reader, Speller}

@@ -1,11 +1,9 @@
 -- The inside of a string, piece by piece.
-use Rattle.std.proofs.Common.{◌≡◌, ℕ, ◌<◌, List, [], ◌∷◌, ◌++◌, length, take, drop, get_or, Bool, true, false, cond, ◌||◌, ◌==◌, Option, Some, None, refl, sym, ◌∙◌, ap, arith, inl, inr, eqb-true, append-nil, length-append}
-use Rattle.std.specs.Str.{IsCharBoundary}
-use Rattle.std.specs.Option.{option_map}
-use Rattle.std.proofs.lemmas.Bool.{both_ways, not-true, not-false, or_parts, or_cases}
-use Rattle.std.proofs.lemmas.List.{take_at, drop_at}
-use Rattle.evt_text.specs.Spelling.{is_plain, escaped}
-use Rattle.evt_text.specs.Reading.{◌>>=◌, with_front, behind_sign, inside_from, letter_at, escape_at, plain_front, behind_plain}
+use Rattle.evt_text.proofs.Common.{◌≡◌, ℕ, ◌<◌, List, [], ◌∷◌, ◌++◌, length, take, drop, get_or, Bool, true, false, cond, ◌||◌, ◌==◌, Option, Some, None, refl, sym, ◌∙◌, ap, arith, inl, inr, length-append, IsCharBoundary, option_map, or_cases, take_at, is_plain, escaped, with_front, behind_sign, inside_from}
+use Rattle.std.proofs.Common.{eqb-true, append-nil}
+use Rattle.std.proofs.lemmas.Bool.{both_ways, not-true, not-false, or_parts}
+use Rattle.std.proofs.lemmas.List.{drop_at}
+use Rattle.evt_text.specs.Reading.{◌>>=◌, letter_at, escape_at, plain_front, behind_plain}
 use Rattle.evt_text.proofs.Cases.{chosen, bind-some, map-some, pair-some, with_front-twice, with_front-nil}
 use Rattle.evt_text.proofs.Fronts.{behind_sign-is}
 

@@ -1,7 +1,5 @@
 -- Names of event types, and the types that can be read in event files.
-use Rattle.std.specs.Prelude.{ℕ, ◌≤◌, List, [], ◌∷◌, length, Bool, IsTrue, nat_le, ◌==◌, ◌&&◌, ◌||◌}
-use Rattle.std.specs.List.{AllByRecursion}
-use Rattle.epl_values.specs.declared.shape.EventShape.{EventShape}
+use Rattle.evt_text.specs.Common.{ℕ, ◌≤◌, List, [], ◌∷◌, length, Bool, IsTrue, nat_le, ◌==◌, ◌&&◌, ◌||◌, AllByRecursion, EventShape}
 use Rattle.event_types.specs.Types.{HasDistinctNames, HasKnownFields, HasNoCycle}
 
 -- `A` to `Z`, `a` to `z` and `_`

@@ -1,12 +1,10 @@
 -- Reading a value from left to right: the value and what follows it, or nothing.
-use Rattle.std.specs.Prelude.{◌≡◌, ℕ, ℤ, pos, neg_ℤ, zero, suc, ◌+◌, ◌-◌, ◌*◌, List, [], ◌∷◌, ◌++◌, length, Bool, true, false, ◌==◌, ◌&&◌, nat_le, if◌then◌else◌, Option, Some, None, Result, Ok, Err, slice_get}
+use Rattle.evt_text.specs.Common.{◌≡◌, ℕ, ℤ, pos, neg_ℤ, zero, suc, List, [], ◌∷◌, ◌++◌, length, Bool, true, false, ◌==◌, ◌&&◌, nat_le, if◌then◌else◌, Option, Some, None, Result, Ok, Err, Field, EventShape, Value, Form, IntegerForm, TextForm, EventForm}
+use Rattle.std.specs.Prelude.{◌+◌, ◌-◌, ◌*◌, slice_get}
 use Rattle.std.specs.Option.{option_map}
-use Rattle.epl_values.specs.declared.shape.Field.{Field}
-use Rattle.epl_values.specs.declared.shape.EventShape.{EventShape}
-use Rattle.epl_values.specs.declared.value.Value.{Value}
 use Rattle.epl_values.specs.declared.value.Value.TheVariants as value
 use Rattle.evt_text.specs.Forms.{is_digit}
-use Rattle.event_types.specs.Types.{Form, IntegerForm, TextForm, EventForm, form_of}
+use Rattle.event_types.specs.Types.{form_of}
 use Rattle.evt_text.specs.Spelling.{is_blank, is_plain, escaped}
 use Rattle.evt_text.specs.declared.fault.TextFault.{TextFault}
 use Rattle.evt_text.specs.declared.fault.TextFault.TheVariants.{NoValue, Memory}

@@ -1,13 +1,10 @@
 -- How values are spelled in an event file.
-use Rattle.std.specs.Prelude.{◌≡◌, ℕ, ℤ, pos, neg_ℤ, zero, suc, ◌<◌, ◌≤◌, ◌^◌, ◌⊎◌, List, [], ◌∷◌, ◌++◌, length, Bool, true, false, IsTrue, ◌==◌, ◌||◌, not, if◌then◌else◌, Option, Some, None, Result, Ok, Err, slice_get, slice_range}
-use Rattle.std.specs.List.{AllByRecursion}
+use Rattle.evt_text.specs.Common.{◌≡◌, ℕ, ℤ, pos, neg_ℤ, zero, suc, ◌≤◌, List, [], ◌∷◌, ◌++◌, length, Bool, true, false, IsTrue, ◌==◌, ◌||◌, if◌then◌else◌, Option, Some, None, Result, Ok, Err, AllByRecursion, Field, EventShape, Value, Form, IntegerForm, TextForm, EventForm}
+use Rattle.std.specs.Prelude.{◌<◌, ◌^◌, ◌⊎◌, not, slice_get, slice_range}
 use Rattle.std.specs.Str.Parse.{IsNumeral, digits_value}
 use Rattle.epl_values.specs.declared.shape.Shape.{Shape}
-use Rattle.epl_values.specs.declared.shape.Field.{Field}
-use Rattle.epl_values.specs.declared.shape.EventShape.{EventShape}
-use Rattle.epl_values.specs.declared.value.Value.{Value}
 use Rattle.epl_values.specs.declared.value.Value.TheVariants as value
-use Rattle.event_types.specs.Types.{Form, IntegerForm, TextForm, EventForm, form_of}
+use Rattle.event_types.specs.Types.{form_of}
 use Rattle.evt_text.specs.declared.fault.TextFault.{TextFault}
 use Rattle.evt_text.specs.declared.fault.TextFault.TheVariants as fault
 

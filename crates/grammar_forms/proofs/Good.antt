@@ -1,10 +1,7 @@
 -- Readers of nothing, of what is made of a tree, of one form after another, and of one form or another.
-use Rattle.std.proofs.Common.{◌≡◌, ℕ, true, List, ◌++◌, Option, Some, None, refl, sym, ap, ◌∙◌, subst, ⊎_elim, inl, inr, arith}
-use Rattle.std.specs.Prelude.{◌⊎◌}
-use Rattle.std.proofs.lemmas.Option.{same_Some}
-use Rattle.grammar_forms.specs.Rule.{Nothing, Made, Then, Either, Row, has, apart, all_in}
-use Rattle.grammar_forms.specs.Reader.{Reader, none, made, with, and_then, or_else}
-use Rattle.grammar_forms.specs.Good.{Good}
+use Rattle.grammar_forms.proofs.Common.{◌≡◌, ℕ, true, List, ◌++◌, Option, Some, None, refl, sym, ap, ◌∙◌, subst, ⊎_elim, inl, inr, arith, ◌⊎◌, same_Some, Then, Either, Row, apart, all_in, Reader, or_else, Good}
+use Rattle.grammar_forms.specs.Rule.{Nothing, Made, has}
+use Rattle.grammar_forms.specs.Reader.{none, made, with, and_then}
 use Rattle.grammar_forms.proofs.Sets.{apart_here, has_left, has_right, has_neither, has_in, lacks_in}
 
 pub good_none : {A : Type 0} (row : Row) (starts ext : List ℕ) → Good {A = A} row Nothing none starts ext

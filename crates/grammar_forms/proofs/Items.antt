@@ -1,8 +1,6 @@
 -- A reader of one item.
-use Rattle.std.proofs.Common.{◌≡◌, ℕ, ◌+◌, ◌<◌, true, List, [], Some, refl, sym, arith}
-use Rattle.grammar_forms.specs.Rule.{Row, has}
-use Rattle.grammar_forms.specs.Reader.{Reader}
-use Rattle.grammar_forms.specs.Good.{Good}
+use Rattle.grammar_forms.proofs.Common.{◌≡◌, ℕ, ◌+◌, ◌<◌, true, List, [], Some, refl, sym, arith, Row, Reader, Good}
+use Rattle.grammar_forms.specs.Rule.{has}
 
 -- a reader of one token
 pub good_token : {A : Type 0} (row : Row) (read : Reader A) (starts : List ℕ) (test : A → ℕ → Type 0) → ((at : ℕ) (x : A × ℕ) → read at ≡ Some x → test x.0 at × (x.1 ≡ at + 1)) → ((at : ℕ) (a : A) → test a at → read at ≡ Some (a, at + 1)) → ((at : ℕ) (a : A) → test a at → (at < row.len) × (has row starts at ≡ true)) → Good row (λ a at end. test a at × (end ≡ at + 1)) read starts []

@@ -1,9 +1,7 @@
 -- One item of a class, and what is behind, between and separated by such items.
-use Rattle.std.proofs.Common.{◌≡◌, ℕ, ◌+◌, true, cond, List, [], ◌∷◌, ◌++◌, Some, None, sym, ap}
-use Rattle.std.proofs.lemmas.Option.{cond_some}
-use Rattle.grammar_forms.specs.Rule.{Row, has, apart, IsOf, LiesInside, Behind, Within, Separated}
-use Rattle.grammar_forms.specs.Reader.{Reader, item_of, behind, within, separated}
-use Rattle.grammar_forms.specs.Good.{Good}
+use Rattle.grammar_forms.proofs.Common.{◌≡◌, ℕ, ◌+◌, true, cond, List, [], ◌∷◌, ◌++◌, Some, None, sym, ap, cond_some, Row, apart, LiesInside, Reader, Good}
+use Rattle.grammar_forms.specs.Rule.{has, IsOf, Behind, Within, Separated}
+use Rattle.grammar_forms.specs.Reader.{item_of, behind, within, separated}
 use Rattle.grammar_forms.proofs.Good.{good_made, good_then}
 use Rattle.grammar_forms.proofs.Many.{good_and_many}
 use Rattle.grammar_forms.proofs.Items.{good_token}

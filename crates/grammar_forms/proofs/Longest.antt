@@ -1,9 +1,6 @@
 -- A good reader reads the longest trees, and only them.
-use Rattle.std.proofs.Common.{ℕ, ◌≤◌, List, sym, ap, ◌∙◌, subst}
-use Rattle.std.proofs.lemmas.Option.{same_Some}
-use Rattle.grammar_forms.specs.Rule.{Row}
-use Rattle.grammar_forms.specs.Reader.{Reader}
-use Rattle.grammar_forms.specs.Good.{Good, ReadsLongest}
+use Rattle.grammar_forms.proofs.Common.{ℕ, ◌≤◌, List, sym, ap, ◌∙◌, subst, same_Some, Row, Reader, Good}
+use Rattle.grammar_forms.specs.Good.{ReadsLongest}
 
 pub reads_longest : {A : Type 0} {row : Row} {Is : A → ℕ → ℕ → Type 0} {read : Reader A} {s e : List ℕ} → Good row Is read s e → ReadsLongest Is read
 reads_longest {A} {row} {Is} {read} {s} {e} g = record {

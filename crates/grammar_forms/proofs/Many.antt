@@ -1,10 +1,8 @@
 -- One and then as many of another as there are.
-use Rattle.std.proofs.Common.{◌≡◌, ℕ, zero, suc, ◌+◌, ◌-◌, ◌<◌, ◌≤◌, true, false, List, [], ◌∷◌, ◌++◌, Option, Some, None, refl, sym, ap, ◌∙◌, subst, ⊎_elim, arith, append_assoc, append-nil}
-use Rattle.std.proofs.lemmas.Bool.{cases_eq}
-use Rattle.std.proofs.lemmas.Option.{same_Some}
-use Rattle.grammar_forms.specs.Rule.{Then, Many, Row, has, apart}
-use Rattle.grammar_forms.specs.Reader.{Reader, more, many, and_many}
-use Rattle.grammar_forms.specs.Good.{Covers, Good}
+use Rattle.grammar_forms.proofs.Common.{◌≡◌, ℕ, zero, suc, ◌+◌, ◌-◌, ◌<◌, ◌≤◌, true, false, List, [], ◌∷◌, ◌++◌, Option, Some, None, refl, sym, ap, ◌∙◌, subst, ⊎_elim, arith, cases_eq, same_Some, Then, Row, apart, Reader, more, Covers, Good}
+use Rattle.std.proofs.Common.{append_assoc, append-nil}
+use Rattle.grammar_forms.specs.Rule.{Many, has}
+use Rattle.grammar_forms.specs.Reader.{many, and_many}
 use Rattle.grammar_forms.proofs.Sets.{apart_here, has_neither}
 
 -- what a run of turns gives: more at the end, of the form, up to a place

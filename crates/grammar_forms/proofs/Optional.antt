@@ -1,9 +1,7 @@
 -- One and then another, or none.
-use Rattle.std.proofs.Common.{◌≡◌, ℕ, ◌<◌, ◌≤◌, true, false, List, ◌++◌, Option, Some, None, refl, sym, ap, ◌∙◌, subst, arith}
-use Rattle.std.proofs.lemmas.Option.{same_Some}
-use Rattle.grammar_forms.specs.Rule.{Then, Optional, Row, has, apart}
-use Rattle.grammar_forms.specs.Reader.{Reader, or_none, and_optional}
-use Rattle.grammar_forms.specs.Good.{Covers, Good}
+use Rattle.grammar_forms.proofs.Common.{◌≡◌, ℕ, ◌<◌, ◌≤◌, true, false, List, ◌++◌, Option, Some, None, refl, sym, ap, ◌∙◌, subst, arith, same_Some, Then, Row, apart, Reader, Covers, Good}
+use Rattle.grammar_forms.specs.Rule.{Optional, has}
+use Rattle.grammar_forms.specs.Reader.{or_none, and_optional}
 use Rattle.grammar_forms.proofs.Sets.{apart_here, has_neither}
 
 or_none_form : {A B : Type 0} (P : A → ℕ → ℕ → Type 0) (Q : B → ℕ → ℕ → Type 0) (a : A) (at mid : ℕ) (o : Option (B × ℕ)) (x : (A × Option B) × ℕ) → P a at mid → ((y : B × ℕ) → o ≡ Some y → Q y.0 mid y.1) → or_none a mid o ≡ Some x → Then P (Optional Q) x.0 at x.1

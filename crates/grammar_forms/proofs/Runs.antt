@@ -1,11 +1,9 @@
 -- As many of some classes as there are, and at least one.
-use Rattle.std.proofs.Common.{◌≡◌, ℕ, zero, suc, ◌+◌, ◌-◌, ◌<◌, ◌≤◌, Bool, true, false, cond, List, nat_lt, Some, None, refl, sym, ap, subst, ⊎_elim, inl, inr, arith}
-use Rattle.std.specs.Prelude.{◌⊎◌}
-use Rattle.std.proofs.lemmas.Bool.{cases_eq, cases_lt, ltb-true, lt-ltb}
-use Rattle.std.proofs.lemmas.Option.{same_Some}
-use Rattle.grammar_forms.specs.Rule.{IsRun, LiesInside, Row, has}
+use Rattle.grammar_forms.proofs.Common.{◌≡◌, ℕ, zero, suc, ◌+◌, ◌-◌, ◌<◌, ◌≤◌, Bool, true, false, cond, List, Some, None, refl, sym, ap, subst, ⊎_elim, inl, inr, arith, ◌⊎◌, cases_eq, same_Some, LiesInside, Row, Covers, Good}
+use Rattle.std.proofs.Common.{nat_lt}
+use Rattle.std.proofs.lemmas.Bool.{cases_lt, ltb-true, lt-ltb}
+use Rattle.grammar_forms.specs.Rule.{IsRun, has}
 use Rattle.grammar_forms.specs.Reader.{run_end, run_at}
-use Rattle.grammar_forms.specs.Good.{Covers, Good}
 
 pub record Ends (row : Row) (set : List ℕ) (n at : ℕ) : Type 0 where
   pub not_before : at ≤ run_end row set n at

@@ -1,7 +1,7 @@
 -- A recursion on a count of turns, beside a loop that counts up.
-use Rattle.std.proofs.Common.{◌≡◌, ℕ, suc, ◌+◌, ◌-◌, ◌<◌, ◌≤◌, List, [], ◌∷◌, ◌++◌, Some, None, true, false, cond, ap, ◌∙◌, arith}
-use Rattle.grammar_forms.specs.Rule.{Row, has}
-use Rattle.grammar_forms.specs.Reader.{Reader, many, more, run_end}
+use Rattle.grammar_forms.proofs.Common.{◌≡◌, ℕ, suc, ◌+◌, ◌-◌, ◌<◌, ◌≤◌, List, [], ◌∷◌, ◌++◌, Some, None, true, false, cond, ap, ◌∙◌, arith, Row, Reader, more}
+use Rattle.grammar_forms.specs.Rule.{has}
+use Rattle.grammar_forms.specs.Reader.{many, run_end}
 
 pub one_more : {X : Type 0} {x : X} (f : ℕ → X) (n at : ℕ) → at < n → x ≡ f (n - at) → x ≡ f (suc (n - (at + 1)))
 one_more f n at below e = let turn : n - at ≡ suc (n - (at + 1)) = omega arith in e ∙ ap f turn

@@ -1,9 +1,7 @@
 -- One and then another exactly where a class comes next; what passes a test; what begins with a class.
-use Rattle.std.proofs.Common.{◌≡◌, ℕ, ◌<◌, ◌≤◌, Bool, true, false, cond, List, [], Option, Some, None, refl, sym, ap, ◌∙◌, subst, arith}
-use Rattle.std.proofs.lemmas.Option.{same_Some, cond_some}
-use Rattle.grammar_forms.specs.Rule.{Then, Where, Such, Starting, Row, has}
-use Rattle.grammar_forms.specs.Reader.{Reader, with_some, and_where, such, starting}
-use Rattle.grammar_forms.specs.Good.{Covers, Good}
+use Rattle.grammar_forms.proofs.Common.{◌≡◌, ℕ, ◌<◌, ◌≤◌, Bool, true, false, cond, List, [], Option, Some, None, refl, sym, ap, ◌∙◌, subst, arith, same_Some, cond_some, Then, Row, Reader, Covers, Good}
+use Rattle.grammar_forms.specs.Rule.{Where, Such, Starting, has}
+use Rattle.grammar_forms.specs.Reader.{with_some, and_where, such, starting}
 use Rattle.grammar_forms.proofs.Sets.{lacks}
 
 or_where_form : {A B : Type 0} (row : Row) (set : List ℕ) (P : A → ℕ → ℕ → Type 0) (Q : B → ℕ → ℕ → Type 0) (y : A × ℕ) (at : ℕ) (o : Option (B × ℕ)) (x : (A × Option B) × ℕ) → P y.0 at y.1 → ((z : B × ℕ) → o ≡ Some z → Q z.0 y.1 z.1) → (b : Bool) → has row set (y.1) ≡ b → cond b (with_some y.0 o) (Some ((y.0, None), y.1)) ≡ Some x → Then P (Where row set Q) x.0 at x.1

@@ -1,3 +1,4 @@
+pub mod Common
 pub mod Rule
 pub mod Reader
 pub mod Good

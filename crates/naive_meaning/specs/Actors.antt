@@ -1,13 +1,11 @@
 -- The contexts and the reader of a run, as actors.
-use Rattle.std.specs.Prelude.{ℕ, zero, suc, List, [], ◌∷◌, ◌++◌, length}
+use Rattle.naive_meaning.specs.Common.{ℕ, List, [], ◌∷◌, ◌++◌, Program, Cargo, Context}
+use Rattle.std.specs.Prelude.{zero, suc, length}
 use Rattle.actor_theory.specs.Language.{Sent}
 use Rattle.actor_theory.specs.Joined.{Slots, Reader}
-use Rattle.typed_program.specs.declared.program.Program.{Program}
-use Rattle.context_meaning.specs.declared.cargo.Cargo.{Cargo}
 use Rattle.context_meaning.specs.declared.cargo.Cargo.TheVariants as cargo
 use Rattle.naive_meaning.specs.declared.entry.Item.{Item}
 use Rattle.naive_meaning.specs.declared.entry.Item.TheVariants as item
-use Rattle.context_meaning.specs.declared.context.Context.{Context}
 use Rattle.context_meaning.specs.Contexts.{fresh}
 use Rattle.context_meaning.specs.Turns.{handle}
 

@@ -1,11 +1,9 @@
 -- Entries and items that fit a typed program.
 use Rattle.std.specs.List.{All}
-use Rattle.std.specs.Prelude.{List}
+use Rattle.naive_meaning.specs.Common.{List, Program, Cargo}
 use Rattle.epl_values.specs.declared.value.Value.{out-Value}
-use Rattle.typed_program.specs.declared.program.Program.{Program}
 use Rattle.value_shapes.specs.Fits.{IsEvent}
 use Rattle.actor_theory.specs.declared.entry.Entry.{Entry}
-use Rattle.context_meaning.specs.declared.cargo.Cargo.{Cargo}
 use Rattle.context_meaning.specs.Fits.{CargoFits}
 use Rattle.naive_meaning.specs.declared.entry.Item.{Item}
 use Rattle.naive_meaning.specs.declared.entry.Item.TheVariants as item

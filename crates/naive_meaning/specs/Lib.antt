@@ -1,3 +1,4 @@
+pub mod Common
 pub mod Actors
 pub mod Fits
 pub mod Records

@@ -1,14 +1,11 @@
 -- Records of runs: which are faithful to a program, its items and its settings, and which one a schedule makes.
-use Rattle.std.specs.Prelude.{◌≡◌, ℕ, List, map, Option}
+use Rattle.naive_meaning.specs.Common.{ℕ, List, Option, Program, Cargo, Line, Context}
+use Rattle.std.specs.Prelude.{◌≡◌, map}
 use Rattle.actor_theory.specs.Kept as kept
-use Rattle.typed_program.specs.declared.program.Program.{Program}
-use Rattle.context_meaning.specs.declared.cargo.Cargo.{Cargo}
 use Rattle.naive_meaning.specs.declared.entry.Item.{Item}
-use Rattle.context_meaning.specs.declared.cargo.Line.{Line}
 use Rattle.naive_meaning.specs.declared.record.Settings.{Settings}
 use Rattle.naive_meaning.specs.declared.record.ContextRecord.{ContextRecord}
 use Rattle.naive_meaning.specs.declared.record.Record.{Record}
-use Rattle.context_meaning.specs.declared.context.Context.{Context}
 use Rattle.naive_meaning.specs.Actors.{contexts_of, reader_of}
 
 -- what a record shows of a context besides its handlings: its lines

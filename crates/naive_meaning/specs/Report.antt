@@ -1,12 +1,11 @@
 -- The report of a record: what each context printed, slot after slot.
-use Rattle.std.specs.Prelude.{ℕ, ◌+◌, List, [], ◌∷◌, ◌++◌, Bool, ◌==◌, if◌then◌else◌, codes, Option, Some, None, slice_get}
+use Rattle.naive_meaning.specs.Common.{ℕ, List, [], ◌∷◌, ◌++◌, Option, Line, Program}
+use Rattle.std.specs.Prelude.{◌+◌, Bool, ◌==◌, if◌then◌else◌, codes, Some, None, slice_get}
 use Rattle.std.specs.List.{flat_map}
 use Rattle.std.specs.Fmt.{decimal}
 use Rattle.action_host.specs.declared.host.Fault.{Fault}
 use Rattle.action_host.specs.declared.host.Fault.TheVariants as fault
-use Rattle.context_meaning.specs.declared.cargo.Line.{Line}
 use Rattle.context_meaning.specs.declared.cargo.Line.TheVariants as line
-use Rattle.typed_program.specs.declared.program.Program.{Program}
 use Rattle.typed_program.specs.declared.program.Monitor.{Monitor}
 use Rattle.naive_meaning.specs.declared.record.ContextRecord.{ContextRecord}
 use Rattle.naive_meaning.specs.declared.record.Record.{Record}

@@ -1,7 +1,5 @@
 -- The rules of statements: what is visible where, what may be assigned, where loops and bodies end, and what callbacks see.
-use Rattle.std.specs.Prelude.{ℕ, zero, suc, ◌+◌, Bool, true, false, ◌&&◌, not, ◌==◌, nat_lt, List, [], ◌∷◌, ◌++◌, map, length, Option, Some, None, is_some, slice_get, if◌then◌else◌}
-use Rattle.std.specs.List.{list_all, list_any}
-use Rattle.epl_values.specs.declared.shape.Shape.{Shape}
+use Rattle.typed_program.specs.Common.{ℕ, zero, suc, ◌+◌, Bool, true, false, ◌&&◌, not, ◌==◌, nat_lt, List, [], ◌∷◌, ◌++◌, map, length, Option, Some, None, is_some, slice_get, if◌then◌else◌, list_all, list_any, Shape}
 use Rattle.typed_program.specs.declared.expression.TypedExpr.{TypedExpr}
 use Rattle.typed_program.specs.declared.program.Local.{Local}
 use Rattle.typed_program.specs.declared.program.Site.{Site}

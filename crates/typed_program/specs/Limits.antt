@@ -1,9 +1,7 @@
 -- The limits of a program: event types, monitors, fields, parameters, bodies.
-use Rattle.std.specs.Prelude.{ℕ, zero, suc, ◌+◌, Bool, true, false, ◌&&◌, nat_le, List, [], ◌∷◌, length, Option, Some, None, slice_get}
-use Rattle.std.specs.List.{list_all, sum_by}
-use Rattle.epl_values.specs.declared.shape.Shape.{Shape, Shape-F, out-Shape}
+use Rattle.typed_program.specs.Common.{ℕ, zero, suc, ◌+◌, Bool, true, false, ◌&&◌, nat_le, List, [], ◌∷◌, length, Option, Some, None, slice_get, list_all, Shape, Shape-F, out-Shape, EventShape}
+use Rattle.std.specs.List.{sum_by}
 use Rattle.epl_values.specs.declared.shape.Shape.TheOpen as layer
-use Rattle.epl_values.specs.declared.shape.EventShape.{EventShape}
 use Rattle.typed_program.specs.declared.program.Program.{Program}
 use Rattle.typed_program.specs.declared.program.Action.{Action}
 use Rattle.typed_program.specs.Expressions.{fields_at}

@@ -1,7 +1,6 @@
 -- The rules of visible names, paths and changes in expressions. A path is a variable, or a field or element reached from one.
-use Rattle.std.specs.Prelude.{ℕ, ◌+◌, Bool, true, false, ◌&&◌, ◌||◌, not, ◌==◌, nat_le, List, [], ◌∷◌, ◌++◌, map, length, Option, Some, None, is_some, if◌then◌else◌}
-use Rattle.std.specs.List.{list_all, list_any, find}
-use Rattle.epl_values.specs.declared.shape.Shape.{Shape}
+use Rattle.typed_program.specs.Common.{ℕ, ◌+◌, Bool, true, false, ◌&&◌, ◌||◌, not, ◌==◌, nat_le, List, [], ◌∷◌, ◌++◌, map, length, Option, Some, None, is_some, if◌then◌else◌, list_all, list_any, Shape}
+use Rattle.std.specs.List.{find}
 use Rattle.typed_program.specs.declared.expression.Method.{Method}
 use Rattle.typed_program.specs.declared.expression.Method.TheVariants as method
 use Rattle.typed_program.specs.declared.expression.TypedExpr.{TypedExpr}

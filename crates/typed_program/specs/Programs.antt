@@ -1,8 +1,5 @@
 -- Programs whose numbers name something and whose expressions, locals and globals have their shapes.
-use Rattle.std.specs.Prelude.{ℕ, ◌+◌, ◌≡◌, Bool, true, false, ◌&&◌, not, ◌==◌, List, [], ◌∷◌, ◌++◌, length, map, Option, Some, None, is_some, slice_get}
-use Rattle.std.specs.List.{list_all}
-use Rattle.epl_values.specs.declared.shape.Shape.{Shape}
-use Rattle.epl_values.specs.declared.shape.EventShape.{EventShape}
+use Rattle.typed_program.specs.Common.{ℕ, ◌+◌, ◌≡◌, Bool, true, false, ◌&&◌, not, ◌==◌, List, [], ◌∷◌, ◌++◌, length, map, Option, Some, None, is_some, slice_get, list_all, Shape, EventShape}
 use Rattle.typed_program.specs.declared.expression.TypedExpr.{TypedExpr}
 use Rattle.typed_program.specs.declared.program.Program.{Program}
 use Rattle.typed_program.specs.declared.program.Monitor.{Monitor}

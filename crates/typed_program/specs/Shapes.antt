@@ -1,8 +1,7 @@
 -- What is asked about shapes.
-use Rattle.std.specs.Prelude.{ℕ, Bool, true, false, ◌&&◌, ◌||◌, not, ◌==◌, nat_lt, List, length, Option, Some, None}
-use Rattle.epl_values.specs.declared.shape.Shape.{Shape, Shape-F, out-Shape, fold-Shape}
+use Rattle.typed_program.specs.Common.{ℕ, Bool, true, false, ◌&&◌, ◌||◌, not, ◌==◌, nat_lt, List, length, Option, Some, None, Shape, Shape-F, out-Shape, EventShape}
+use Rattle.epl_values.specs.declared.shape.Shape.{fold-Shape}
 use Rattle.epl_values.specs.declared.shape.Shape.TheOpen as layer
-use Rattle.epl_values.specs.declared.shape.EventShape.{EventShape}
 
 -- whether two shapes are the same
 abbrev pub same_layer : Shape-F (Shape → Bool) → Shape-F Shape → Bool

@@ -1,11 +1,8 @@
 -- Event expressions: each template is of an event type that is there, and each of its constraints has operands of its field's
 -- shape; durations are integers; bound names are events.
-use Rattle.std.specs.Prelude.{ℕ, Bool, true, false, ◌&&◌, ◌==◌, List, [], ◌∷◌, Option, Some, None, slice_get}
-use Rattle.std.specs.List.{list_all}
-use Rattle.epl_values.specs.declared.shape.Shape.{Shape, Shape-F, out-Shape}
+use Rattle.typed_program.specs.Common.{ℕ, Bool, true, false, ◌&&◌, ◌==◌, List, [], ◌∷◌, Option, Some, None, slice_get, list_all, Shape, Shape-F, out-Shape, EventShape}
 use Rattle.epl_values.specs.declared.shape.Shape.TheVariants as shape
 use Rattle.epl_values.specs.declared.shape.Shape.TheOpen as layer
-use Rattle.epl_values.specs.declared.shape.EventShape.{EventShape}
 use Rattle.typed_program.specs.declared.term.Term.{Term, Term-F, fold-Term}
 use Rattle.typed_program.specs.declared.term.Term.TheOpen as term
 use Rattle.typed_program.specs.declared.term.TemplateShape.{TemplateShape}

@@ -1,34 +1,16 @@
 -- Runs of bodies keep the shapes of variables: initial values, actions and callbacks.
-use Rattle.std.proofs.Common.{◌≡◌, ℕ, zero, suc, ◌+◌, ◌-◌, Bool, true, false, ◌&&◌, not, ◌==◌, List, [], ◌∷◌, length, map, Option, Some, None, Ok, refl, sym, ap, subst, ◌∙◌, arith}
-use Rattle.std.specs.Prelude.{slice_get, is_some, nat_lt, if◌then◌else◌}
-use Rattle.std.specs.Option.{option_map}
-use Rattle.std.specs.List.{list_all}
-use Rattle.std.proofs.lemmas.Bool.{eqb-true}
-use Rattle.std.proofs.lemmas.Option.{slice_get-map, same_Some}
-use Rattle.epl_values.specs.declared.shape.Shape.{Shape}
-use Rattle.epl_values.specs.declared.value.Value.{Value}
-use Rattle.typed_program.specs.declared.program.Program.{Program}
-use Rattle.typed_program.specs.declared.program.Action.{Action}
+use Rattle.typed_runs.proofs.Common.{◌≡◌, ℕ, zero, suc, Bool, true, false, ◌&&◌, not, ◌==◌, List, [], ◌∷◌, length, map, Option, Some, None, Ok, refl, sym, ap, subst, ◌∙◌, slice_get, is_some, nat_lt, if◌then◌else◌, option_map, list_all, eqb-true, slice_get-map, Shape, Value, Program, Action, Site, TypedExpr, stands, checked, callback_params, Typed, Scene, Frame, Outcome, Went, Ended, M, with_variable, value_of, calls, action_run, Fit, AllFit, fit_nil, default_fits, globals_in, GlobalsFit, FrameFits, OutcomeFits, Keeps}
+use Rattle.std.proofs.Common.{◌+◌, ◌-◌, arith}
+use Rattle.std.proofs.lemmas.Option.{same_Some}
 use Rattle.typed_program.specs.declared.program.Global.{Global}
 use Rattle.typed_program.specs.declared.program.Monitor.{Monitor}
-use Rattle.typed_program.specs.declared.program.Site.{Site}
-use Rattle.typed_program.specs.declared.expression.TypedExpr.{TypedExpr}
 use Rattle.typed_program.specs.declared.statement.Variable.TheVariants as variable
-use Rattle.typed_program.specs.Shapes.{stands}
-use Rattle.typed_program.specs.Expressions.{checked}
-use Rattle.typed_program.specs.Programs.{global_shapes, no_names, callback_params, initial_so, global_so, is_plain, runs_plain, ends_plain, monitor_so, monitors_so}
-use Rattle.typed_program.specs.Typed.{Typed}
-use Rattle.action_host.specs.Scenes.{Scene}
-use Rattle.body_meaning.specs.declared.run.Frame.{Frame}
-use Rattle.body_meaning.specs.Runs.{Outcome, Went, Ended, M, ◌>>◌}
-use Rattle.body_meaning.specs.Paths.{with_variable}
-use Rattle.body_meaning.specs.Expressions.{meaning_of, value_of}
-use Rattle.body_meaning.specs.Acts.{set_global, calls, action_run, site_run, initial_by, initials_from, begun_by, run_of, act}
-use Rattle.value_shapes.specs.Fits.{Fit, AllFit}
-use Rattle.value_shapes.proofs.Lists.{fit_nil}
-use Rattle.value_shapes.proofs.Defaults.{default_fits}
-use Rattle.typed_runs.specs.Bodies.{Head, action_head, callback_head, head_of, globals_in, GlobalsFit}
-use Rattle.typed_runs.specs.Kept.{FrameFits, OutcomeFits, Keeps, RunFits}
+use Rattle.typed_program.specs.Programs.{global_shapes, no_names, initial_so, global_so, is_plain, runs_plain, ends_plain, monitor_so, monitors_so}
+use Rattle.body_meaning.specs.Runs.{◌>>◌}
+use Rattle.body_meaning.specs.Expressions.{meaning_of}
+use Rattle.body_meaning.specs.Acts.{set_global, site_run, initial_by, initials_from, begun_by, run_of, act}
+use Rattle.typed_runs.specs.Bodies.{Head, action_head, callback_head, head_of}
+use Rattle.typed_runs.specs.Kept.{RunFits}
 use Rattle.typed_runs.proofs.Keeping.{Any, keeps_pure, keeps_charge, keeps_bind, keeps_seq, keeps_as, leaves_change}
 use Rattle.typed_runs.proofs.Variables.{with_variable_fits}
 use Rattle.typed_runs.proofs.Sound.{sound_value, left, right, known_some, told_of}

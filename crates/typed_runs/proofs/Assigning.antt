@@ -1,11 +1,6 @@
 -- Places that are assigned lead to the shapes that stand at them.
-use Rattle.std.proofs.Common.{◌≡◌, ℕ, List, [], ◌∷◌, Option, Some, None, Err, refl, subst}
-use Rattle.epl_values.specs.declared.shape.Shape.{Shape}
-use Rattle.typed_program.specs.declared.program.Program.{Program}
+use Rattle.typed_runs.proofs.Common.{◌≡◌, ℕ, List, [], ◌∷◌, Option, Some, None, Err, refl, subst, Shape, Program, Move, M, Reach}
 use Rattle.action_host.specs.declared.host.Fault.TheVariants as fault
-use Rattle.body_meaning.specs.declared.run.Move.{Move}
-use Rattle.body_meaning.specs.Runs.{M}
-use Rattle.body_meaning.specs.Expressions.{Reach}
 use Rattle.body_meaning.specs.Statements.{move_of, moves_in}
 use Rattle.typed_runs.proofs.Keeping.{keeps_given}
 use Rattle.typed_runs.proofs.Stepping.{Steps, MoveLeads, Walked}

@@ -1,32 +1,12 @@
 -- Calls of actions keep the shapes of variables, however deep they nest.
-use Rattle.std.proofs.Common.{◌≡◌, ℕ, zero, suc, Bool, true, false, ◌&&◌, ◌||◌, not, ◌⊎◌, inl, inr, List, [], ◌∷◌, ◌++◌, length, Option, Some, None, Ok, Err, refl, sym, subst}
-use Rattle.std.specs.Prelude.{slice_get, is_some}
-use Rattle.std.proofs.lemmas.Bool.{or_cases}
-use Rattle.epl_values.specs.declared.shape.Shape.{Shape}
-use Rattle.epl_values.specs.declared.value.Value.{Value}
-use Rattle.typed_program.specs.declared.program.Program.{Program}
-use Rattle.typed_program.specs.declared.program.Action.{Action}
-use Rattle.typed_program.specs.declared.program.Site.{Site}
-use Rattle.typed_program.specs.Shapes.{stands}
-use Rattle.typed_program.specs.Statements.{row_holds}
+use Rattle.typed_runs.proofs.Common.{◌≡◌, ℕ, zero, suc, Bool, true, false, ◌&&◌, ◌||◌, not, ◌⊎◌, inl, inr, List, [], ◌∷◌, ◌++◌, length, Option, Some, None, Ok, Err, refl, sym, subst, slice_get, is_some, or_cases, Shape, Value, Program, Action, Site, stands, row_holds, callback_params, ends_with_return, Typed, Flow, Next, Broke, Continued, Returned, Frame, M, Calls, body_of, action_run, calls, AllFit, MayFit, fit_append, default_fits, globals_in, FrameFits, Keeps}
 use Rattle.typed_program.specs.Terms.{fits_term}
-use Rattle.typed_program.specs.Programs.{action_names, action_body, callback_params, callback_body, all_stand, is_there, action_so, site_so, site_around}
-use Rattle.typed_program.specs.Courses.{runs as lawful_runs, ends_with_return}
+use Rattle.typed_program.specs.Programs.{action_names, action_body, callback_body, all_stand, is_there, action_so, site_so, site_around}
+use Rattle.typed_program.specs.Courses.{runs as lawful_runs}
 use Rattle.typed_program.specs.Rules.{action_lawful, special_in, callback_lawful, params_from}
-use Rattle.typed_program.specs.Typed.{Typed}
 use Rattle.action_host.specs.declared.host.Fault.TheVariants as fault
-use Rattle.body_meaning.specs.declared.run.Flow.{Flow}
-use Rattle.body_meaning.specs.declared.run.Flow.TheVariants.{Next, Broke, Continued, Returned}
-use Rattle.body_meaning.specs.declared.run.Frame.{Frame}
-use Rattle.body_meaning.specs.Runs.{M}
-use Rattle.body_meaning.specs.Expressions.{Calls}
-use Rattle.body_meaning.specs.Statements.{body_of}
-use Rattle.body_meaning.specs.Acts.{returned, or_none, with_locals, in_locals, defaults_of, runs, action_run, enter, calls}
-use Rattle.value_shapes.specs.Fits.{AllFit, MayFit}
-use Rattle.value_shapes.proofs.Lists.{fit_append}
-use Rattle.value_shapes.proofs.Defaults.{default_fits, defaults_fit}
-use Rattle.typed_runs.specs.Bodies.{globals_in}
-use Rattle.typed_runs.specs.Kept.{FrameFits, Keeps}
+use Rattle.body_meaning.specs.Acts.{returned, or_none, with_locals, in_locals, defaults_of, runs, enter}
+use Rattle.value_shapes.proofs.Defaults.{defaults_fit}
 use Rattle.typed_runs.proofs.Keeping.{Any, keeps_pure, keeps_given, keeps_look, keeps_charge, keeps_bind, keeps_seq, leaves_change}
 use Rattle.typed_runs.proofs.Sound.{left, right}
 use Rattle.typed_runs.proofs.Seen.{Seen, CallsKeep}

@@ -1,21 +1,12 @@
 -- Operators with their operands, and the entries of dictionaries, put together from parts that keep the shapes of variables.
-use Rattle.std.proofs.Common.{ℕ, Bool, List, [], ◌∷◌}
-use Rattle.std.specs.List.{AllByRecursion}
-use Rattle.epl_values.specs.declared.shape.Shape.{Shape}
-use Rattle.epl_values.specs.declared.value.Value.{Value}
+use Rattle.typed_runs.proofs.Common.{ℕ, Bool, List, [], ◌∷◌, AllByRecursion, Shape, Value, Pair, Operator, Program, M, truth_of, Linking, Pairing, or_from, and_from, xor_from, links_from, entries_behind, Fit, Keeps}
 use Rattle.epl_values.specs.declared.value.Value.TheVariants as value
-use Rattle.epl_values.specs.declared.value.Pair.{Pair}
 use Rattle.epl_values.specs.Order.{KeysAscend}
-use Rattle.epl_tree.specs.declared.expression.Operator.{Operator}
-use Rattle.typed_program.specs.declared.program.Program.{Program}
-use Rattle.body_meaning.specs.Runs.{M}
-use Rattle.body_meaning.specs.Values.{truth_of, differ}
+use Rattle.body_meaning.specs.Values.{differ}
 use Rattle.body_meaning.specs.Paths.{with_entry}
-use Rattle.body_meaning.specs.Expressions.{Linking, Pairing, or_from, and_from, xor_from, operate, links_from, entries_behind}
-use Rattle.value_shapes.specs.Fits.{Fit}
+use Rattle.body_meaning.specs.Expressions.{operate}
 use Rattle.value_shapes.proofs.Layers.{EntriesFit}
 use Rattle.value_shapes.proofs.Entries.{entry_fits}
-use Rattle.typed_runs.specs.Kept.{Keeps}
 use Rattle.typed_runs.proofs.Keeping.{keeps_pure, keeps_bind, keeps_choose}
 
 module _ {program : Program} {monitor : ℕ} {room : List Shape} where

@@ -1,26 +1,17 @@
 -- Effects keep the shapes of variables, and carry what they are to carry.
-use Rattle.std.proofs.Common.{◌≡◌, ℕ, Bool, true, false, List, [], ◌∷◌, Some, sym, subst}
-use Rattle.std.specs.Prelude.{if◌then◌else◌, slice_get, ◌==◌, nat_lt, ◌+◌}
-use Rattle.epl_values.specs.declared.shape.Shape.{Shape}
+use Rattle.typed_runs.proofs.Common.{◌≡◌, ℕ, Bool, true, false, List, [], ◌∷◌, Some, sym, subst, if◌then◌else◌, slice_get, nat_lt, Shape, Value, Value-F, out-Value, Pair, Program, Action, M, truth_of, Fit, AllFit, fit_append, globals_in, GlobalsFit, Keeps, ListenFits}
+use Rattle.std.specs.Prelude.{◌==◌, ◌+◌}
 use Rattle.epl_values.specs.declared.shape.Shape.TheVariants as shape
-use Rattle.epl_values.specs.declared.value.Value.{Value, Value-F, out-Value}
 use Rattle.epl_values.specs.declared.value.Value.TheOpen as layer
 use Rattle.epl_values.specs.declared.value.Value.TheVariants as value
-use Rattle.epl_values.specs.declared.value.Pair.{Pair}
-use Rattle.typed_program.specs.declared.program.Program.{Program}
-use Rattle.typed_program.specs.declared.program.Action.{Action}
 use Rattle.typed_program.specs.declared.term.Term.{Term}
 use Rattle.action_host.specs.Replies.{Reply, making}
-use Rattle.body_meaning.specs.Runs.{M}
-use Rattle.body_meaning.specs.Values.{truth_of}
 use Rattle.body_meaning.specs.Methods.{quit}
 use Rattle.body_meaning.specs.Effects.{print, log, route, send_channel, send_context, send_in, send, taken_along, spawn_here, spawn_there, globals_then, spawn_in, spawn_to, subscribe, unsubscribe, make, make_context, current, listen}
-use Rattle.value_shapes.specs.Fits.{Fit, AllFit, IsEvent}
-use Rattle.value_shapes.proofs.Lists.{fit_append}
+use Rattle.value_shapes.specs.Fits.{IsEvent}
 use Rattle.value_shapes.proofs.Made.{context_fits, no_context_fits, listener_fits}
 use Rattle.value_shapes.proofs.Emptied.{all_emptied_fits}
-use Rattle.typed_runs.specs.Bodies.{globals_in, GlobalsFit}
-use Rattle.typed_runs.specs.Kept.{Keeps, SpawnFits, ListenFits}
+use Rattle.typed_runs.specs.Kept.{SpawnFits}
 use Rattle.typed_runs.proofs.Keeping.{Any, AnswerFits, keeps_pure, keeps_given, keeps_look, keeps_charge, keeps_perform, keeps_by_scene, keeps_bind, keeps_seq}
 
 -- where either answer fits, the chosen one does

@@ -1,24 +1,16 @@
 -- Expressions that are as they should be keep the shapes of variables: one induction over typed trees.
-use Rattle.std.proofs.Common.{◌≡◌, ℕ, true, ◌&&◌, List, [], ◌∷◌, map, Option, Some, sym, ap, subst}
-use Rattle.std.specs.Prelude.{slice_get}
-use Rattle.std.specs.List.{AllZip}
-use Rattle.epl_values.specs.declared.shape.Shape.{Shape}
-use Rattle.epl_values.specs.declared.value.Value.{Value}
-use Rattle.typed_program.specs.declared.program.Program.{Program}
-use Rattle.typed_program.specs.declared.program.Action.{Action}
+use Rattle.typed_runs.proofs.Common.{◌≡◌, ℕ, true, ◌&&◌, List, [], ◌∷◌, map, Option, Some, sym, ap, subst, slice_get, AllZip, Shape, Value, Program, Action, TypedExpr, TypedSuffix, Names, Checked, Linked, Paired, Stepping, if_known, gives, may_stand, shape_of, checked, stepping, Calls, Meant, Reach, Pairing, Linking, read, AllFit, MayFit, Keeps}
 use Rattle.typed_program.specs.declared.statement.Variable.TheVariants as variable
-use Rattle.typed_program.specs.declared.expression.TypedExpr.{TypedExpr, TypedExpr-F, map-TypedExpr, roll-TypedExpr, fold-roll-TypedExpr, fold_out-TypedExpr}
+use Rattle.typed_program.specs.declared.expression.TypedExpr.{TypedExpr-F, map-TypedExpr, roll-TypedExpr, fold-roll-TypedExpr, fold_out-TypedExpr}
 use Rattle.typed_program.specs.declared.expression.TypedNode.{TypedNode, TypedNode-F, map-TypedNode, roll-TypedNode, fold-TypedNode, fold-roll-TypedNode}
 use Rattle.typed_program.specs.declared.expression.TypedNode.TheOpen as node
 use Rattle.typed_program.specs.declared.expression.TypedLink.{TypedLink, TypedLink-F, map-TypedLink, roll-TypedLink, fold-TypedLink, fold-roll-TypedLink}
 use Rattle.typed_program.specs.declared.expression.TypedEntry.{TypedEntry, TypedEntry-F, map-TypedEntry, roll-TypedEntry, fold-TypedEntry, fold-roll-TypedEntry}
-use Rattle.typed_program.specs.declared.expression.TypedSuffix.{TypedSuffix, TypedSuffix-F, map-TypedSuffix, roll-TypedSuffix, fold-roll-TypedSuffix}
+use Rattle.typed_program.specs.declared.expression.TypedSuffix.{TypedSuffix-F, map-TypedSuffix, roll-TypedSuffix, fold-roll-TypedSuffix}
 use Rattle.typed_program.specs.declared.expression.TypedSuffixNode.{TypedSuffixNode, TypedSuffixNode-F, map-TypedSuffixNode, roll-TypedSuffixNode, fold-TypedSuffixNode, fold-roll-TypedSuffixNode}
 use Rattle.typed_program.specs.declared.expression.TypedNode.TheFolds.{ind-TypedExpr, ind-TypedSuffix}
-use Rattle.typed_program.specs.Expressions.{Names, Checked, Linked, Paired, Stepping, Node, Step, if_known, gives, node_so, step_so, entry_so, expr_so, link_so, suffix_so, may_stand, shape_of, checked, stepping}
-use Rattle.body_meaning.specs.Expressions.{Calls, Meant, Reach, Pairing, Linking, NodeMeant, read, node_meant, step_meant, entry_meant, expr_meant, link_meant, suffix_meant, meaning_of, reach_of}
-use Rattle.value_shapes.specs.Fits.{AllFit, MayFit}
-use Rattle.typed_runs.specs.Kept.{Keeps}
+use Rattle.typed_program.specs.Expressions.{Node, Step, node_so, step_so, entry_so, expr_so, link_so, suffix_so}
+use Rattle.body_meaning.specs.Expressions.{NodeMeant, node_meant, step_meant, entry_meant, expr_meant, link_meant, suffix_meant, meaning_of, reach_of}
 use Rattle.typed_runs.proofs.Seen.{Seen, named}
 use Rattle.typed_runs.proofs.Stepping.{KeepsExpr, KeepsStep}
 use Rattle.typed_runs.proofs.Sound.{Sound, left, right, known_some}

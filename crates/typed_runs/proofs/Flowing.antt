@@ -1,21 +1,8 @@
 -- How statements end, put together: what is said of their flow, whatever state they begin in.
-use Rattle.std.proofs.Common.{◌≡◌, ℕ, zero, suc, Bool, true, false, List, [], ◌∷◌}
-use Rattle.epl_values.specs.declared.shape.Shape.{Shape}
-use Rattle.epl_values.specs.declared.value.Value.{Value}
-use Rattle.typed_program.specs.declared.program.Program.{Program}
-use Rattle.typed_program.specs.declared.statement.TypedPlace.{TypedPlace}
-use Rattle.body_meaning.specs.declared.run.Move.{Move}
-use Rattle.typed_program.specs.Courses.{Ending, Reading}
-use Rattle.typed_program.specs.Paths.{Visible}
-use Rattle.body_meaning.specs.declared.run.Flow.{Flow}
-use Rattle.body_meaning.specs.declared.run.Flow.TheVariants.{Next, Broke, Continued, Returned}
-use Rattle.body_meaning.specs.declared.run.Halt.{Halt}
-use Rattle.body_meaning.specs.declared.run.Halt.TheVariants.{Spent}
-use Rattle.body_meaning.specs.Runs.{State, Did, Outcome, Went, Ended, M, behind, then_do, ◌>>=◌, ◌>>◌, pure, halt, choose}
-use Rattle.body_meaning.specs.Values.{truth_of}
-use Rattle.body_meaning.specs.Statements.{is_next, follow, again, turns, while_of, each, for_of, assign}
+use Rattle.typed_runs.proofs.Common.{◌≡◌, ℕ, zero, suc, Bool, true, false, List, [], ◌∷◌, Shape, Value, Program, TypedPlace, Move, Ending, Reading, Visible, Flow, Next, Broke, Continued, Returned, Halt, Spent, State, Did, Outcome, Went, Ended, M, then_do, choose, truth_of, is_next, again, OutcomeFits, Keeps}
+use Rattle.body_meaning.specs.Runs.{behind, ◌>>=◌, ◌>>◌, pure, halt}
+use Rattle.body_meaning.specs.Statements.{follow, turns, while_of, each, for_of, assign}
 use Rattle.typed_runs.proofs.Keeping.{Any}
-use Rattle.typed_runs.specs.Kept.{OutcomeFits, Keeps}
 
 -- what is said of the value of a run that went on
 abbrev pub WentSo : {A : Type 0} → (A → Type 0) → Outcome A → Type 0

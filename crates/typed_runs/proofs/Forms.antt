@@ -1,36 +1,19 @@
 -- The forms of expressions: each keeps the shapes of variables and gives a value of its shape, where its parts do.
-use Rattle.std.proofs.Common.{◌≡◌, ℕ, ℤ, ◌⊎◌, inl, inr, Bool, true, false, ◌&&◌, ◌||◌, ◌==◌, not, List, [], ◌∷◌, map, Option, Some, None, refl, sym, ap, subst, ◌∙◌}
-use Rattle.std.specs.Prelude.{slice_get}
-use Rattle.std.specs.List.{AllByRecursion, AllZip, list_all}
-use Rattle.std.proofs.lemmas.Bool.{or_cases, eqb-true}
-use Rattle.epl_values.specs.declared.shape.Shape.{Shape, Shape-F, out-Shape, roll-Shape, roll-out-Shape}
+use Rattle.typed_runs.proofs.Common.{◌≡◌, ℕ, ◌⊎◌, inl, inr, Bool, true, false, ◌&&◌, ◌||◌, ◌==◌, not, List, [], ◌∷◌, map, Option, Some, None, refl, sym, ap, subst, ◌∙◌, slice_get, AllByRecursion, AllZip, list_all, or_cases, eqb-true, Shape, Shape-F, out-Shape, roll-Shape, roll-out-Shape, EventShape, Value, Value-F, out-Value, Pair, Operator, Program, Action, Variable, same, stands, Checked, Linked, Paired, Stepping, if_known, is_of, all_of, are_of, agrees, walks, gives, may_stand, fields_of, default_of, M, choose, all, truth_of, variable_in, Meant, Linking, Pairing, Reach, Calls, read, values_of, or_from, and_from, xor_from, links_from, entries_behind, Fit, AllFit, MayFit, integer_fits, boolean_fits, text_fits, same_is, Keeps}
+use Rattle.std.proofs.Common.{ℤ}
 use Rattle.epl_values.specs.declared.shape.Shape.TheOpen as layer
 use Rattle.epl_values.specs.declared.shape.Shape.TheVariants as shape
-use Rattle.epl_values.specs.declared.shape.EventShape.{EventShape}
-use Rattle.epl_values.specs.declared.value.Value.{Value, Value-F, out-Value}
 use Rattle.epl_values.specs.declared.value.Value.TheOpen as value_layer
 use Rattle.epl_values.specs.declared.value.Value.TheVariants as value
-use Rattle.epl_values.specs.declared.value.Pair.{Pair}
 use Rattle.epl_tree.specs.declared.expression.Comparison.{Comparison}
-use Rattle.epl_tree.specs.declared.expression.Operator.{Operator}
-use Rattle.typed_program.specs.declared.program.Program.{Program}
-use Rattle.typed_program.specs.declared.program.Action.{Action}
-use Rattle.typed_program.specs.declared.statement.Variable.{Variable}
-use Rattle.typed_program.specs.Shapes.{same, stands}
-use Rattle.typed_program.specs.Expressions.{Checked, Linked, Paired, Stepping, if_known, is_of, all_of, are_of, agrees, may_compare, compares, links, is_add, truths, walks, calls, makes, sequence_so, dictionary_so, gives, may_stand}
-use Rattle.event_types.specs.Types.{fields_of}
-use Rattle.value_rules.specs.Defaults.{default_of}
-use Rattle.body_meaning.specs.Runs.{M, ◌>>=◌, pure, given, choose, all, two}
-use Rattle.body_meaning.specs.Values.{is_text, is_text_in, truth_of, negated, compared}
-use Rattle.body_meaning.specs.Paths.{variable_in}
+use Rattle.typed_program.specs.Expressions.{may_compare, compares, links, is_add, truths, calls, makes, sequence_so, dictionary_so}
+use Rattle.body_meaning.specs.Runs.{◌>>=◌, pure, given, two}
+use Rattle.body_meaning.specs.Values.{is_text, is_text_in, negated, compared}
 use Rattle.body_meaning.specs.Effects.{make_context, current}
-use Rattle.body_meaning.specs.Expressions.{Meant, Linking, Pairing, Reach, Calls, valued, read, values_of, or_from, and_from, xor_from, operate, links_from, entries_behind, postfix, default_by}
-use Rattle.value_shapes.specs.Fits.{Fit, AllFit, MayFit}
+use Rattle.body_meaning.specs.Expressions.{valued, operate, postfix, default_by}
 use Rattle.value_shapes.proofs.Layers.{LayerFits, fit_out}
-use Rattle.value_shapes.proofs.Made.{integer_fits, boolean_fits, text_fits, sequence_made, dictionary_made, event_made}
+use Rattle.value_shapes.proofs.Made.{sequence_made, dictionary_made, event_made}
 use Rattle.value_shapes.proofs.Results.{calculated_fits, negated_fits, compared_fits}
-use Rattle.value_shapes.proofs.Same.{same_is}
-use Rattle.typed_runs.specs.Kept.{Keeps}
 use Rattle.typed_runs.proofs.Keeping.{Any, keeps_pure, keeps_given, keeps_look, keeps_bind, keeps_as, keeps_two}
 use Rattle.typed_runs.proofs.Chains.{keeps_or, keeps_and, keeps_xor, keeps_links, keeps_entries}
 use Rattle.typed_runs.proofs.Methods.{keeps_text}

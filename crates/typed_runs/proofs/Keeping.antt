@@ -1,24 +1,14 @@
 -- Runs that keep the shapes of variables, put together.
-use Rattle.std.proofs.Common.{◌≡◌, ℕ, Bool, true, false, List, [], ◌∷◌, ◌++◌, Result, Ok, Err, refl, sym, subst}
+use Rattle.typed_runs.proofs.Common.{◌≡◌, ℕ, Bool, true, false, List, [], ◌∷◌, ◌++◌, Result, Ok, Err, refl, sym, subst, AllZip, append_assoc, append-nil, Shape, Value, Program, Fault, Scene, Frame, Halt, State, Did, Outcome, Went, Ended, M, then_do, choose, all_behind, all, GlobalsFit, FrameFits, OutcomeFits, Keeps}
 use Rattle.std.specs.Prelude.{nat_le}
-use Rattle.std.specs.List.{AllZip}
-use Rattle.std.proofs.lemmas.List.{append_assoc, append-nil}
 use Rattle.std.proofs.lemmas.List.Elements.{All-append, All-nil, All-cons}
-use Rattle.epl_values.specs.declared.shape.Shape.{Shape}
-use Rattle.epl_values.specs.declared.value.Value.{Value}
 use Rattle.epl_values.specs.declared.value.Value.TheVariants as value
-use Rattle.typed_program.specs.declared.program.Program.{Program}
-use Rattle.action_host.specs.declared.host.Fault.{Fault}
 use Rattle.action_host.specs.declared.host.Effect.{Effect}
 use Rattle.action_host.specs.declared.host.Answer.{Answer}
 use Rattle.action_host.specs.declared.host.Answer.TheVariants as answer
 use Rattle.action_host.specs.Replies.{reply}
-use Rattle.action_host.specs.Scenes.{Scene}
-use Rattle.body_meaning.specs.declared.run.Frame.{Frame}
-use Rattle.body_meaning.specs.declared.run.Halt.{Halt}
-use Rattle.body_meaning.specs.Runs.{State, Did, Outcome, Went, Ended, M, nothing, one, and_then, behind, then_do, ◌>>=◌, ◌>>◌, pure, halt, charge, charge_if, perform, settle, given, looked, look, by_scene, change, changed, choose, all_behind, all, two}
-use Rattle.typed_runs.specs.Bodies.{GlobalsFit}
-use Rattle.typed_runs.specs.Kept.{DidFit, EffectFits, FrameFits, OutcomeFits, Leaves, Keeps}
+use Rattle.body_meaning.specs.Runs.{nothing, one, and_then, behind, ◌>>=◌, ◌>>◌, pure, halt, charge, charge_if, perform, settle, given, looked, look, by_scene, change, changed, two}
+use Rattle.typed_runs.specs.Kept.{DidFit, EffectFits, Leaves}
 
 -- what is said of the value that an effect is answered
 abbrev pub AnswerFits : (Value → Type 0) → Answer → Type 0

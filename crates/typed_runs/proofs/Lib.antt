@@ -1,3 +1,4 @@
+mod Common
 mod Acting
 mod Assigning
 mod Calling

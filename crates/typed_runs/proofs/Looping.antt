@@ -1,22 +1,7 @@
 -- Statements in a row, loops, and what is assigned, put together from parts that keep the shapes of variables.
-use Rattle.std.proofs.Common.{◌≡◌, ℕ, zero, suc, List, [], ◌∷◌, Some}
-use Rattle.std.specs.Prelude.{slice_get}
-use Rattle.std.specs.List.{AllByRecursion}
-use Rattle.epl_values.specs.declared.shape.Shape.{Shape}
-use Rattle.epl_values.specs.declared.value.Value.{Value}
-use Rattle.typed_program.specs.declared.program.Program.{Program}
-use Rattle.typed_program.specs.declared.statement.TypedPlace.{TypedPlace}
-use Rattle.value_rules.specs.Costs.{cost_of}
-use Rattle.body_meaning.specs.declared.run.Flow.{Flow}
-use Rattle.body_meaning.specs.declared.run.Flow.TheVariants.{Next, Broke, Continued, Returned}
-use Rattle.body_meaning.specs.declared.run.Halt.TheVariants.{Spent}
-use Rattle.body_meaning.specs.declared.run.Move.{Move}
-use Rattle.body_meaning.specs.Runs.{M}
-use Rattle.body_meaning.specs.Values.{truth_of, items_of}
-use Rattle.body_meaning.specs.Paths.{store, set_local}
-use Rattle.body_meaning.specs.Statements.{is_next, row, again, turns, while_of, each, elements_of, for_of, done, set, assign}
-use Rattle.value_shapes.specs.Fits.{Fit}
-use Rattle.typed_runs.specs.Kept.{Keeps}
+use Rattle.typed_runs.proofs.Common.{◌≡◌, ℕ, zero, suc, List, [], ◌∷◌, Some, slice_get, AllByRecursion, Shape, Value, Program, TypedPlace, cost_of, Flow, Next, Broke, Continued, Returned, Spent, Move, M, truth_of, store, set_local, is_next, row, again, set, Fit, Keeps}
+use Rattle.body_meaning.specs.Values.{items_of}
+use Rattle.body_meaning.specs.Statements.{turns, while_of, each, elements_of, for_of, done, assign}
 use Rattle.typed_runs.proofs.Keeping.{Any, keeps_pure, keeps_halt, keeps_charge, keeps_bind, keeps_seq, keeps_choose, leaves_change}
 use Rattle.typed_runs.proofs.Variables.{shape_at, store_fits, set_local_fits}
 use Rattle.typed_runs.proofs.Stepping.{Steps, keeps_moves}

@@ -1,26 +1,16 @@
 -- Methods keep the shapes of variables, and give values of the shapes of their signatures.
-use Rattle.std.proofs.Common.{◌≡◌, ℕ, Bool, true, false, not, List, Option, Some, None, sym, ap, subst, ◌∙◌}
+use Rattle.typed_runs.proofs.Common.{◌≡◌, ℕ, Bool, true, false, not, List, Option, Some, None, sym, ap, subst, ◌∙◌, is_some, Shape, Shape-F, out-Shape, roll-Shape, roll-out-Shape, Value, Program, Method, Signature, cost_of, M, Fit, MayFit, integer_fits, boolean_fits, text_fits, Keeps}
 use Rattle.std.specs.Prelude.{pos}
-use Rattle.std.specs.Prelude.{is_some}
-use Rattle.epl_values.specs.declared.shape.Shape.{Shape, Shape-F, out-Shape, roll-Shape, roll-out-Shape}
 use Rattle.epl_values.specs.declared.shape.Shape.TheOpen as layer
 use Rattle.epl_values.specs.declared.shape.Shape.TheVariants as shape
-use Rattle.epl_values.specs.declared.value.Value.{Value}
 use Rattle.epl_values.specs.declared.value.Value.TheVariants as value
-use Rattle.typed_program.specs.declared.program.Program.{Program}
-use Rattle.typed_program.specs.declared.expression.Method.{Method}
 use Rattle.typed_program.specs.declared.expression.Method.TheVariants as method
 use Rattle.typed_program.specs.Shapes.{is_scalar, holds_link}
-use Rattle.typed_program.specs.Methods.{Signature, signature, of_layer, where_it}
-use Rattle.value_rules.specs.Costs.{cost_of}
-use Rattle.body_meaning.specs.Runs.{M}
+use Rattle.typed_program.specs.Methods.{signature, of_layer, where_it}
 use Rattle.body_meaning.specs.Values.{letters_of, characters, bounded, pairs_of}
 use Rattle.body_meaning.specs.Paths.{at_key}
 use Rattle.body_meaning.specs.Methods.{first, text_charged, value_charged, substring_charged, place_charged, change_lost, called}
-use Rattle.value_shapes.specs.Fits.{Fit, MayFit}
-use Rattle.value_shapes.proofs.Made.{integer_fits, boolean_fits, text_fits}
 use Rattle.value_shapes.proofs.Results.{bounded_fits, keys_fit, size_fits, place_of_fits}
-use Rattle.typed_runs.specs.Kept.{Keeps}
 use Rattle.typed_runs.proofs.Keeping.{Any, keeps_pure, keeps_given, keeps_charge, keeps_bind, keeps_seq}
 use Rattle.typed_runs.proofs.Effecting.{keeps_quit}
 

@@ -1,20 +1,9 @@
 -- A body that ends with a `return` returns: one induction over statements.
-use Rattle.std.proofs.Common.{◌≡◌, ℕ, Bool, true, false, ◌&&◌, List, [], ◌∷◌, map, Option, Some, None, refl, sym, ap, subst, ◌∙◌}
-use Rattle.epl_values.specs.declared.shape.EventShape.{EventShape}
-use Rattle.typed_program.specs.declared.program.Site.{Site}
-use Rattle.typed_program.specs.declared.expression.TypedExpr.{TypedExpr}
-use Rattle.typed_program.specs.declared.statement.Stmt.{Stmt, Stmt-F, map-Stmt, roll-Stmt, fold-Stmt, fold-roll-Stmt, ind-Stmt}
+use Rattle.typed_runs.proofs.Common.{◌≡◌, ℕ, Bool, true, false, ◌&&◌, List, [], ◌∷◌, map, Option, Some, None, refl, sym, ap, subst, ◌∙◌, EventShape, Site, TypedExpr, Stmt, Stmt-F, map-Stmt, roll-Stmt, fold-roll-Stmt, ind-Stmt, Names, Visible, Reading, Ending, ends_with_return, Flow, Next, Broke, Continued, Returned, Died, M, truth_of, Calls, row, stmt_meant, body_of}
+use Rattle.typed_program.specs.declared.statement.Stmt.{fold-Stmt}
 use Rattle.typed_program.specs.declared.statement.Stmt.TheOpen as stmt
-use Rattle.typed_program.specs.Expressions.{Names}
-use Rattle.typed_program.specs.Paths.{Visible}
-use Rattle.typed_program.specs.Courses.{Reading, Ending, row_of, is_plain, stmt_reading, reading_of, runs, last_ends, ending_step, ends_with_return}
-use Rattle.body_meaning.specs.declared.run.Flow.{Flow}
-use Rattle.body_meaning.specs.declared.run.Flow.TheVariants.{Next, Broke, Continued, Returned}
-use Rattle.body_meaning.specs.declared.run.Halt.TheVariants.{Died}
-use Rattle.body_meaning.specs.Runs.{M}
-use Rattle.body_meaning.specs.Values.{truth_of}
-use Rattle.body_meaning.specs.Expressions.{Calls}
-use Rattle.body_meaning.specs.Statements.{row, stmt_meant, stmt_of, body_of}
+use Rattle.typed_program.specs.Courses.{row_of, is_plain, stmt_reading, reading_of, runs, last_ends, ending_step}
+use Rattle.body_meaning.specs.Statements.{stmt_of}
 use Rattle.typed_runs.proofs.Sound.{left, right}
 use Rattle.typed_runs.proofs.Flowing.{Gives, Stays, IsEnd, IsReturn, Flows, gives_pure, gives_halt, gives_bind, gives_after, gives_seq, gives_choose, gives_as, gives_both, follow_so, follow_ends, stop_ends, returns_so, while_stays, for_stays, assign_stays}
 

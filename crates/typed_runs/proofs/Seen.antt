@@ -1,17 +1,5 @@
 -- What expressions may name, and the calls that they make.
-use Rattle.std.proofs.Common.{◌≡◌, ℕ, true, List, Some}
-use Rattle.std.specs.Prelude.{slice_get}
-use Rattle.epl_values.specs.declared.shape.Shape.{Shape}
-use Rattle.epl_values.specs.declared.value.Value.{Value}
-use Rattle.typed_program.specs.declared.program.Program.{Program}
-use Rattle.typed_program.specs.declared.program.Action.{Action}
-use Rattle.typed_program.specs.Shapes.{stands}
-use Rattle.typed_program.specs.Expressions.{Names}
-use Rattle.value_rules.specs.Defaults.{default_of}
-use Rattle.body_meaning.specs.Expressions.{Calls}
-use Rattle.value_shapes.specs.Fits.{Fit, AllFit, MayFit}
-use Rattle.typed_runs.specs.Bodies.{globals_in}
-use Rattle.typed_runs.specs.Kept.{Keeps}
+use Rattle.typed_runs.proofs.Common.{◌≡◌, ℕ, true, List, Some, slice_get, Shape, Value, Program, Action, stands, Names, default_of, Calls, Fit, AllFit, MayFit, globals_in, Keeps}
 
 -- what may be named: these globals, locals and actions
 abbrev pub named : Program → ℕ → List Shape → List Shape → List Action → Names

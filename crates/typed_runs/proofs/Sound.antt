@@ -1,18 +1,6 @@
 -- Parts that are as they should be keep the shapes of variables, and give values of their shapes.
-use Rattle.std.proofs.Common.{◌≡◌, ℕ, Bool, true, ◌&&◌, List, [], ◌∷◌, Option, Some, None, refl, sym, ap, subst}
-use Rattle.std.specs.List.{AllByRecursion, AllZip}
+use Rattle.typed_runs.proofs.Common.{◌≡◌, ℕ, Bool, true, ◌&&◌, List, [], ◌∷◌, Option, Some, None, refl, sym, ap, subst, AllByRecursion, AllZip, Shape, Value, Program, same, Checked, if_known, is_of, all_of, are_of, agrees, M, all, Meant, values_of, Fit, AllFit, MayFit, same_is, fit_nil, fit_cons, Keeps}
 use Rattle.std.proofs.lemmas.Bool.{and_parts}
-use Rattle.epl_values.specs.declared.shape.Shape.{Shape}
-use Rattle.epl_values.specs.declared.value.Value.{Value}
-use Rattle.typed_program.specs.declared.program.Program.{Program}
-use Rattle.typed_program.specs.Shapes.{same}
-use Rattle.typed_program.specs.Expressions.{Checked, if_known, is_of, all_of, are_of, agrees}
-use Rattle.body_meaning.specs.Runs.{M, all}
-use Rattle.body_meaning.specs.Expressions.{Meant, values_of}
-use Rattle.value_shapes.specs.Fits.{Fit, AllFit, MayFit}
-use Rattle.value_shapes.proofs.Same.{same_is}
-use Rattle.value_shapes.proofs.Lists.{fit_nil, fit_cons}
-use Rattle.typed_runs.specs.Kept.{Keeps}
 use Rattle.typed_runs.proofs.Keeping.{keeps_as, keeps_all}
 use Rattle.typed_runs.proofs.Stepping.{KeepsExpr}
 

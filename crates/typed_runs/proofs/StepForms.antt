@@ -1,31 +1,17 @@
 -- The forms of steps behind values: fields, elements, entries, and methods.
-use Rattle.std.proofs.Common.{◌≡◌, ℕ, true, List, [], ◌∷◌, map, Option, Some, None, refl, sym, ap, subst, ◌∙◌}
-use Rattle.std.specs.Prelude.{slice_get}
-use Rattle.std.specs.Option.{option_map}
-use Rattle.std.specs.List.{AllZip}
-use Rattle.std.proofs.lemmas.Option.{slice_get-map}
-use Rattle.epl_values.specs.declared.shape.Shape.{Shape, Shape-F, out-Shape}
+use Rattle.typed_runs.proofs.Common.{◌≡◌, ℕ, true, List, [], ◌∷◌, map, Option, Some, None, refl, sym, ap, subst, ◌∙◌, slice_get, option_map, AllZip, slice_get-map, Shape, Shape-F, out-Shape, EventShape, Value, Program, Method, same, Signature, Checked, Stepping, if_known, is_of, are_of, agrees, walks, fields_of, Move, M, all, Meant, Reach, values_of, Fit, AllFit, MayFit, StepsTo, Keeps}
 use Rattle.epl_values.specs.declared.shape.Shape.TheOpen as layer
 use Rattle.epl_values.specs.declared.shape.Shape.TheVariants as shape
 use Rattle.epl_values.specs.declared.shape.Field.{Field}
-use Rattle.epl_values.specs.declared.shape.EventShape.{EventShape}
-use Rattle.epl_values.specs.declared.value.Value.{Value}
-use Rattle.typed_program.specs.declared.program.Program.{Program}
-use Rattle.typed_program.specs.declared.expression.Method.{Method}
 use Rattle.typed_program.specs.declared.expression.Method.TheVariants as method
-use Rattle.typed_program.specs.Shapes.{same}
-use Rattle.typed_program.specs.Methods.{Signature, signature}
-use Rattle.typed_program.specs.Expressions.{Checked, Stepping, if_known, is_of, are_of, agrees, walks, field_shape, shape_in, fields_at, field_leads, item_leads, key_leads, method_leads}
-use Rattle.event_types.specs.Types.{fields_of}
-use Rattle.body_meaning.specs.declared.run.Move.{Move}
+use Rattle.typed_program.specs.Methods.{signature}
+use Rattle.typed_program.specs.Expressions.{field_shape, shape_in, fields_at, field_leads, item_leads, key_leads, method_leads}
 use Rattle.body_meaning.specs.declared.run.Move.TheVariants as move
-use Rattle.body_meaning.specs.Runs.{M, ◌>>=◌, pure, given, all}
+use Rattle.body_meaning.specs.Runs.{◌>>=◌, pure, given}
 use Rattle.body_meaning.specs.Paths.{part}
 use Rattle.body_meaning.specs.Methods.{called}
-use Rattle.body_meaning.specs.Expressions.{Meant, Reach, values_of, change_by, item_move, key_move, reach_by}
-use Rattle.value_shapes.specs.Fits.{Fit, AllFit, MayFit, StepsTo}
+use Rattle.body_meaning.specs.Expressions.{change_by, item_move, key_move, reach_by}
 use Rattle.value_shapes.proofs.Parts.{part_fits}
-use Rattle.typed_runs.specs.Kept.{Keeps}
 use Rattle.typed_runs.proofs.Keeping.{keeps_pure, keeps_given, keeps_bind}
 use Rattle.typed_runs.proofs.Methods.{keeps_called}
 use Rattle.typed_runs.proofs.Stepping.{KeepsStep, Walked, ChangeFits}

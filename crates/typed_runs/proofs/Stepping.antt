@@ -1,19 +1,10 @@
 -- Steps behind values: what they reach, the places that they lead to, and the changes at their end.
-use Rattle.std.proofs.Common.{◌≡◌, ℕ, List, [], ◌∷◌, ◌++◌, Option, Some, None, refl, sym, subst}
-use Rattle.std.proofs.lemmas.List.{append_assoc, append-nil}
-use Rattle.epl_values.specs.declared.shape.Shape.{Shape, out-Shape}
-use Rattle.epl_values.specs.declared.value.Value.{Value}
+use Rattle.typed_runs.proofs.Common.{◌≡◌, ℕ, List, [], ◌∷◌, ◌++◌, Option, Some, None, refl, sym, subst, append_assoc, append-nil, Shape, out-Shape, Value, Program, Signature, Move, M, all_behind, all, alter, Meant, Reach, Fit, AllFit, MayFit, StepsTo, LeadsTo, Keeps}
 use Rattle.epl_values.specs.declared.value.Value.TheVariants as value
-use Rattle.typed_program.specs.declared.program.Program.{Program}
-use Rattle.typed_program.specs.Methods.{Signature, signature}
-use Rattle.body_meaning.specs.declared.run.Move.{Move}
-use Rattle.body_meaning.specs.Runs.{M, all_behind, all}
-use Rattle.body_meaning.specs.Paths.{alter}
+use Rattle.typed_program.specs.Methods.{signature}
 use Rattle.body_meaning.specs.Methods.{changed_by}
-use Rattle.body_meaning.specs.Expressions.{Place, Change, Meant, Reach, reach_from, with_move, moves_of, further, place_behind, change_at_end, but_last, change_place, run_at, postfix_value, postfix}
-use Rattle.value_shapes.specs.Fits.{Fit, AllFit, MayFit, StepsTo, LeadsTo}
+use Rattle.body_meaning.specs.Expressions.{Place, Change, reach_from, with_move, moves_of, further, place_behind, change_at_end, but_last, change_place, run_at, postfix_value, postfix}
 use Rattle.value_shapes.proofs.Changing.{changed_fits}
-use Rattle.typed_runs.specs.Kept.{Keeps}
 use Rattle.typed_runs.proofs.Keeping.{Any, keeps_pure, keeps_bind, keeps_seq, keeps_as, leaves_change}
 use Rattle.typed_runs.proofs.Variables.{shape_at, alter_fits}
 

@@ -1,37 +1,17 @@
 -- The forms of statements: each keeps the shapes of variables, and what it returns has the shape of the result.
-use Rattle.std.proofs.Common.{◌≡◌, ℕ, Bool, true, ◌&&◌, ◌==◌, not, List, [], ◌∷◌, map, Option, Some, None, refl, sym, ap, subst, ◌∙◌}
-use Rattle.std.specs.Prelude.{slice_get, is_some}
-use Rattle.std.specs.List.{AllZip, list_all}
-use Rattle.std.proofs.lemmas.Bool.{eqb-true}
-use Rattle.epl_values.specs.declared.shape.Shape.{Shape, Shape-F, out-Shape, roll-Shape, roll-out-Shape}
+use Rattle.typed_runs.proofs.Common.{◌≡◌, ℕ, Bool, true, ◌&&◌, ◌==◌, not, List, [], ◌∷◌, map, Option, Some, None, refl, sym, ap, subst, ◌∙◌, slice_get, is_some, AllZip, list_all, eqb-true, Shape, Shape-F, out-Shape, roll-Shape, roll-out-Shape, Value, out-Value, Program, Action, Site, TypedExpr, TypedSuffix, TypedPlace, Variable, Names, if_known, checked, stepping, shape_of, walks, Body, passes, place_so, site_so, loops, goes_to, Flow, Next, Returned, Frame, M, variable_in, Calls, value_of, Fit, AllFit, MayFit, fit_nil, fit_cons, globals_in, Keeps, FrameFits, ListenFits}
 use Rattle.epl_values.specs.declared.shape.Shape.TheOpen as layer
 use Rattle.epl_values.specs.declared.shape.Shape.TheVariants as shape
-use Rattle.epl_values.specs.declared.value.Value.{Value, out-Value}
-use Rattle.typed_program.specs.declared.program.Program.{Program}
-use Rattle.typed_program.specs.declared.program.Action.{Action}
-use Rattle.typed_program.specs.declared.program.Site.{Site}
 use Rattle.typed_program.specs.declared.program.Local.{Local}
-use Rattle.typed_program.specs.declared.expression.TypedExpr.{TypedExpr}
-use Rattle.typed_program.specs.declared.expression.TypedSuffix.{TypedSuffix}
-use Rattle.typed_program.specs.declared.statement.TypedPlace.{TypedPlace}
-use Rattle.typed_program.specs.declared.statement.Variable.{Variable}
 use Rattle.typed_program.specs.declared.statement.Variable.TheVariants as variable
 use Rattle.typed_program.specs.Shapes.{is_event, is_event_layer, item_of, item_layer}
-use Rattle.typed_program.specs.Expressions.{Names, if_known, checked, stepping, shape_of, has, holds, have, walks}
-use Rattle.typed_program.specs.Statements.{Body, passes, is_value, variable_shape, place_so, captures, listens, site_so, item_is, loops, returns, begins, goes_to}
-use Rattle.body_meaning.specs.declared.run.Flow.{Flow}
-use Rattle.body_meaning.specs.declared.run.Flow.TheVariants.{Next, Returned}
-use Rattle.body_meaning.specs.declared.run.Frame.{Frame}
-use Rattle.body_meaning.specs.Runs.{M}
-use Rattle.body_meaning.specs.Paths.{variable_in}
+use Rattle.typed_program.specs.Expressions.{has, holds, have}
+use Rattle.typed_program.specs.Statements.{is_value, variable_shape, captures, listens, item_is, returns, begins}
 use Rattle.body_meaning.specs.Effects.{listen}
-use Rattle.body_meaning.specs.Expressions.{Calls, meaning_of, reach_of, value_of, all_values}
+use Rattle.body_meaning.specs.Expressions.{meaning_of, reach_of, all_values}
 use Rattle.body_meaning.specs.Statements.{assign, captured_in, listen_at, listener_of, place_moves, spawned, returned, for_of}
-use Rattle.value_shapes.specs.Fits.{Fit, AllFit, MayFit, AllMayFit, IsEvent}
-use Rattle.value_shapes.proofs.Lists.{fit_nil, fit_cons}
+use Rattle.value_shapes.specs.Fits.{AllMayFit, IsEvent}
 use Rattle.value_shapes.proofs.Made.{sequence_items, is_event_fits}
-use Rattle.typed_runs.specs.Bodies.{globals_in}
-use Rattle.typed_runs.specs.Kept.{Keeps, FrameFits, ListenFits}
 use Rattle.typed_runs.proofs.Keeping.{Any, keeps_pure, keeps_look, keeps_bind, keeps_as, keeps_all}
 use Rattle.typed_runs.proofs.Variables.{shape_at, variable_fits}
 use Rattle.typed_runs.proofs.Effecting.{keeps_listen, keeps_spawn, keeps_spawn_to}

@@ -1,28 +1,12 @@
 -- Statements that are as they should be keep the shapes of variables: one induction over statements.
-use Rattle.std.proofs.Common.{◌≡◌, ℕ, zero, suc, Bool, true, ◌&&◌, List, [], ◌∷◌, map, Option, Some, None, sym, subst, ◌∙◌}
-use Rattle.std.specs.Prelude.{slice_get}
-use Rattle.std.specs.List.{AllByRecursion, list_all}
-use Rattle.epl_values.specs.declared.shape.Shape.{Shape}
+use Rattle.typed_runs.proofs.Common.{◌≡◌, ℕ, zero, suc, Bool, true, ◌&&◌, List, [], ◌∷◌, map, Option, Some, None, sym, subst, ◌∙◌, slice_get, AllByRecursion, list_all, Shape, Program, TypedExpr, Stmt, Stmt-F, map-Stmt, roll-Stmt, fold-roll-Stmt, ind-Stmt, same, stands, if_known, Body, passes, place_so, site_so, loops, goes_to, row_holds, default_of, Flow, Next, Broke, Continued, Died, M, truth_of, Calls, value_of, row, set, stmt_meant, body_of, Fit, same_is, globals_in, Keeps}
 use Rattle.epl_values.specs.declared.shape.Shape.TheVariants as shape
-use Rattle.typed_program.specs.declared.program.Program.{Program}
-use Rattle.typed_program.specs.declared.expression.TypedExpr.{TypedExpr}
-use Rattle.typed_program.specs.declared.statement.Stmt.{Stmt, Stmt-F, map-Stmt, roll-Stmt, fold-roll-Stmt, ind-Stmt}
 use Rattle.typed_program.specs.declared.statement.Stmt.TheOpen as stmt
-use Rattle.typed_program.specs.Shapes.{same, stands, is_event, is_channel}
-use Rattle.typed_program.specs.Expressions.{if_known, has}
-use Rattle.typed_program.specs.Statements.{Body, is_local, passes, place_so, site_so, loops, begins, goes_to, all_hold, stmt_so, stmt_holds, row_holds}
-use Rattle.value_rules.specs.Defaults.{default_of}
-use Rattle.body_meaning.specs.declared.run.Flow.{Flow}
-use Rattle.body_meaning.specs.declared.run.Flow.TheVariants.{Next, Broke, Continued}
-use Rattle.body_meaning.specs.declared.run.Halt.TheVariants.{Died}
-use Rattle.body_meaning.specs.Runs.{M, ◌>>=◌}
-use Rattle.body_meaning.specs.Values.{truth_of}
-use Rattle.body_meaning.specs.Expressions.{Calls, value_of}
-use Rattle.body_meaning.specs.Statements.{begun, row, set, listener_of, level_number, stmt_meant, stmt_of, body_of}
-use Rattle.value_shapes.specs.Fits.{Fit}
-use Rattle.value_shapes.proofs.Same.{same_is}
-use Rattle.typed_runs.specs.Bodies.{globals_in}
-use Rattle.typed_runs.specs.Kept.{Keeps}
+use Rattle.typed_program.specs.Shapes.{is_event, is_channel}
+use Rattle.typed_program.specs.Expressions.{has}
+use Rattle.typed_program.specs.Statements.{is_local, begins, all_hold, stmt_so, stmt_holds}
+use Rattle.body_meaning.specs.Runs.{◌>>=◌}
+use Rattle.body_meaning.specs.Statements.{begun, listener_of, level_number, stmt_of}
 use Rattle.typed_runs.proofs.Keeping.{keeps_as, keeps_pure, keeps_halt, keeps_charge, keeps_bind, keeps_seq, keeps_choose}
 use Rattle.typed_runs.proofs.Effecting.{keeps_print, keeps_log, keeps_route, keeps_send, keeps_subscribe, keeps_unsubscribe}
 use Rattle.typed_runs.proofs.Looping.{keeps_row, keeps_while, keeps_done, keeps_set}

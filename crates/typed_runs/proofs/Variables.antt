@@ -1,20 +1,9 @@
 -- Variables of their shapes: what is read from them, and what is stored in them.
-use Rattle.std.proofs.Common.{◌≡◌, ℕ, List, Option, Some, Result, Ok, Err, refl, sym, subst}
-use Rattle.std.specs.Prelude.{slice_get}
-use Rattle.epl_values.specs.declared.shape.Shape.{Shape}
-use Rattle.epl_values.specs.declared.value.Value.{Value}
-use Rattle.typed_program.specs.declared.program.Program.{Program}
-use Rattle.typed_program.specs.declared.statement.Variable.{Variable}
+use Rattle.typed_runs.proofs.Common.{◌≡◌, ℕ, List, Option, Some, Result, Ok, Err, refl, sym, subst, slice_get, Shape, Value, Program, Variable, Fault, Frame, Move, variable_in, with_variable, store, alter, set_local, Fit, AllFit, LeadsTo, globals_in, FrameFits}
 use Rattle.typed_program.specs.declared.statement.Variable.TheVariants as variable
-use Rattle.action_host.specs.declared.host.Fault.{Fault}
-use Rattle.body_meaning.specs.declared.run.Frame.{Frame}
-use Rattle.body_meaning.specs.declared.run.Move.{Move}
-use Rattle.body_meaning.specs.Paths.{then_try, or_none, variable_in, with_variable, change_variable, store, stored, alter, altered, set_local}
-use Rattle.value_shapes.specs.Fits.{Fit, AllFit, LeadsTo}
+use Rattle.body_meaning.specs.Paths.{then_try, or_none, change_variable, stored, altered}
 use Rattle.value_shapes.proofs.Lists.{fit_there, fit_set}
 use Rattle.value_shapes.proofs.Stores.{stored_fits, altered_fits}
-use Rattle.typed_runs.specs.Bodies.{globals_in}
-use Rattle.typed_runs.specs.Kept.{FrameFits}
 
 -- the shape of a variable
 abbrev pub shape_at : Program → ℕ → List Shape → Variable → Option Shape

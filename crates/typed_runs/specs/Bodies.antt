@@ -1,13 +1,8 @@
 -- Bodies by their numbers, and the variables that they run over.
-use Rattle.std.specs.Prelude.{ℕ, ◌-◌, nat_lt, if◌then◌else◌, List, length, Option, Some, None, slice_get}
+use Rattle.typed_runs.specs.Common.{ℕ, List, Option, Some, None, slice_get, Shape, Value, Program, Action, Site, AllFit}
+use Rattle.std.specs.Prelude.{◌-◌, nat_lt, if◌then◌else◌, length}
 use Rattle.std.specs.Option.{option_map}
-use Rattle.epl_values.specs.declared.shape.Shape.{Shape}
-use Rattle.epl_values.specs.declared.value.Value.{Value}
-use Rattle.typed_program.specs.declared.program.Program.{Program}
-use Rattle.typed_program.specs.declared.program.Action.{Action}
-use Rattle.typed_program.specs.declared.program.Site.{Site}
 use Rattle.typed_program.specs.Programs.{global_shapes, callback_params}
-use Rattle.value_shapes.specs.Fits.{AllFit}
 
 -- the monitor of a body, and its parameters
 pub record Head : Type 0 where

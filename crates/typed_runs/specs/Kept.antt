@@ -1,17 +1,14 @@
 -- Runs of typed programs keep the shapes of variables, and their effects carry values of the shapes that they are to have.
-use Rattle.std.specs.Prelude.{◌≡◌, ℕ, List, ◌++◌, map, Option, Some, None, slice_get}
+use Rattle.typed_runs.specs.Common.{ℕ, List, Option, Some, None, slice_get, Shape, Value, Program, Action, Site, AllFit}
+use Rattle.std.specs.Prelude.{◌≡◌, ◌++◌, map}
 use Rattle.std.specs.List.{All}
-use Rattle.epl_values.specs.declared.shape.Shape.{Shape}
-use Rattle.epl_values.specs.declared.value.Value.{Value, out-Value}
-use Rattle.typed_program.specs.declared.program.Program.{Program}
-use Rattle.typed_program.specs.declared.program.Action.{Action}
-use Rattle.typed_program.specs.declared.program.Site.{Site}
+use Rattle.epl_values.specs.declared.value.Value.{out-Value}
 use Rattle.typed_program.specs.Expressions.{shape_of}
 use Rattle.action_host.specs.declared.host.Effect.{Effect}
 use Rattle.action_host.specs.declared.host.Effect.TheVariants as effect
 use Rattle.body_meaning.specs.declared.run.Frame.{Frame}
 use Rattle.body_meaning.specs.Runs.{State, Did, Outcome, Went, Ended, M}
-use Rattle.value_shapes.specs.Fits.{AllFit, AllMayFit, IsEvent}
+use Rattle.value_shapes.specs.Fits.{AllMayFit, IsEvent}
 use Rattle.typed_runs.specs.Bodies.{globals_in, GlobalsFit}
 
 -- the values that a spawned instance begins with: the arguments of its action, and then the globals of the monitor

@@ -1,17 +1,15 @@
 -- The default of a shape has the shape.
-use Rattle.std.proofs.Common.{◌≡◌, ℕ, zero, suc, ◌<◌, pos, List, [], ◌∷◌, length, map, true, false, Option, Some, None, refl, sym, ap, ◌∙◌, arith, inl, inr}
-use Rattle.std.specs.List.{AllByRecursion, slice_get}
+use Rattle.value_rules.proofs.Common.{◌≡◌, ℕ, zero, suc, ◌<◌, List, [], ◌∷◌, length, map, true, false, Some, None, refl, sym, ap, ◌∙◌, arith, inl, inr, AllByRecursion, slice_get, none-some, Shape, out-Shape, EventShape, Value, default_of, event_fits, fits}
+use Rattle.std.proofs.Common.{pos, Option}
 use Rattle.std.proofs.lemmas.Bool.{eq-eqb}
-use Rattle.std.proofs.lemmas.Option.{none-some, slice_get_cases}
-use Rattle.epl_values.specs.declared.shape.Shape.{Shape, Shape-F, out-Shape, map-Shape, fold_out-Shape}
+use Rattle.std.proofs.lemmas.Option.{slice_get_cases}
+use Rattle.epl_values.specs.declared.shape.Shape.{Shape-F, map-Shape, fold_out-Shape}
 use Rattle.epl_values.specs.declared.shape.Shape.TheOpen as layer
 use Rattle.epl_values.specs.declared.shape.Field.{Field}
-use Rattle.epl_values.specs.declared.shape.EventShape.{EventShape}
-use Rattle.epl_values.specs.declared.value.Value.{Value}
 use Rattle.epl_values.specs.declared.value.Value.TheOpen as part
 use Rattle.event_types.specs.Types.{Form, form_step, form_of, types_in, types_held, fields_of, AreTypes, HasKnownFields, HasNoCycle}
-use Rattle.value_rules.specs.Defaults.{default_step, default_by, default_event, default_of}
-use Rattle.value_rules.specs.Shapes.{all_fit, event_fits, fits, has}
+use Rattle.value_rules.specs.Defaults.{default_step, default_by, default_event}
+use Rattle.value_rules.specs.Shapes.{all_fit, has}
 use Rattle.event_types.proofs.Depths.{Enough, deep-enough, fields-enough, fields-known}
 use Rattle.value_rules.proofs.Having.{has-integer, has-boolean, has-text, has-sequence, has-dictionary, has-event, has-no_context, has-listener}
 

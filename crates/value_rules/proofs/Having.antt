@@ -1,12 +1,11 @@
 -- What shapes a value has, by its kind.
-use Rattle.std.proofs.Common.{◌≡◌, ℕ, ℤ, Bool, List, map, ◌&&◌, sym, ap, ◌∙◌}
-use Rattle.epl_values.specs.declared.shape.Shape.{Shape, out-Shape}
-use Rattle.epl_values.specs.declared.shape.EventShape.{EventShape}
-use Rattle.epl_values.specs.declared.value.Value.{Value, fold-roll-Value}
+use Rattle.value_rules.proofs.Common.{◌≡◌, ℕ, Bool, List, map, ◌&&◌, sym, ap, ◌∙◌, Shape, out-Shape, EventShape, Value, Pair, fits, pair_has}
+use Rattle.std.proofs.Common.{ℤ}
+use Rattle.epl_values.specs.declared.value.Value.{fold-roll-Value}
 use Rattle.epl_values.specs.declared.value.Value.TheOpen as layer
 use Rattle.epl_values.specs.declared.value.Value.TheVariants as value
-use Rattle.epl_values.specs.declared.value.Pair.{Pair, fold_out-Pair}
-use Rattle.value_rules.specs.Shapes.{Fit, PairFit, fits, pair_fits, has, pair_has}
+use Rattle.epl_values.specs.declared.value.Pair.{fold_out-Pair}
+use Rattle.value_rules.specs.Shapes.{Fit, PairFit, pair_fits, has}
 
 module _ (types : List EventShape) where
   pub has-integer : (n : ℤ) (s : Shape) → has types (value.Integer n) s ≡ fits types (layer.Integer n) (out-Shape s)

@@ -1,3 +1,4 @@
+mod Common
 pub mod Defaulted
 pub mod Escapes
 pub mod Having

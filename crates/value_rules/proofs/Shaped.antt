@@ -1,18 +1,14 @@
 -- Values with shapes by their parts, and lists of values that are read, changed and grown.
-use Rattle.std.proofs.Common.{◌≡◌, ℕ, zero, suc, List, [], ◌∷◌, ◌++◌, length, map, Bool, true, false, ◌&&◌, ◌==◌, Some, refl, sym, ap, ◌∙◌, slice_set}
-use Rattle.std.specs.List.{AllByRecursion, list_all, slice_get}
+use Rattle.value_rules.proofs.Common.{◌≡◌, ℕ, zero, suc, List, [], ◌∷◌, ◌++◌, length, map, Bool, true, false, ◌&&◌, Some, refl, sym, ap, ◌∙◌, AllByRecursion, slice_get, none-some, Shape, EventShape, Value, Pair, default_of, event_fits, fits, pair_has}
+use Rattle.std.proofs.Common.{◌==◌, slice_set}
+use Rattle.std.specs.List.{list_all}
 use Rattle.std.proofs.lemmas.Bool.{false≢true}
 use Rattle.std.proofs.lemmas.List.Folds.{list_all-map}
-use Rattle.std.proofs.lemmas.Option.{none-some, same_Some}
-use Rattle.epl_values.specs.declared.shape.Shape.{Shape}
+use Rattle.std.proofs.lemmas.Option.{same_Some}
 use Rattle.epl_values.specs.declared.shape.Shape.TheVariants as shape
-use Rattle.epl_values.specs.declared.shape.EventShape.{EventShape}
-use Rattle.epl_values.specs.declared.value.Value.{Value}
 use Rattle.epl_values.specs.declared.value.Value.TheOpen as part
 use Rattle.epl_values.specs.declared.value.Value.TheVariants as value
-use Rattle.epl_values.specs.declared.value.Pair.{Pair}
-use Rattle.value_rules.specs.Defaults.{default_of}
-use Rattle.value_rules.specs.Shapes.{event_fits, fits, has, pair_has, shapes_have}
+use Rattle.value_rules.specs.Shapes.{has, shapes_have}
 use Rattle.value_rules.proofs.Having.{has-sequence, has-dictionary, has-event, pair-has}
 
 both : (a b : Bool) → (a && b) ≡ true → (a ≡ true) × (b ≡ true)

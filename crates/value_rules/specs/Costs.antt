@@ -1,8 +1,7 @@
 -- What a value costs.
-use Rattle.std.specs.Prelude.{ℕ, ◌+◌, ◌/◌, length, sum}
-use Rattle.epl_values.specs.declared.value.Value.{Value, Value-F, fold-Value}
+use Rattle.value_rules.specs.Common.{ℕ, length, Value, Value-F, fold-Value, Pair, Pair-F, fold-Pair}
+use Rattle.std.specs.Prelude.{◌+◌, ◌/◌, sum}
 use Rattle.epl_values.specs.declared.value.Value.TheOpen as layer
-use Rattle.epl_values.specs.declared.value.Pair.{Pair, Pair-F, fold-Pair}
 
 -- a value costs 1, 1 more for each full 64 bytes of a text, and what its parts cost
 abbrev pub cost_step : Value-F ℕ ℕ → ℕ

@@ -1,9 +1,8 @@
 -- The value that a variable or field has at first.
-use Rattle.std.specs.Prelude.{ℕ, zero, suc, pos, List, [], length, false, map, slice_get}
-use Rattle.epl_values.specs.declared.shape.Shape.{Shape, Shape-F, fold-Shape}
+use Rattle.value_rules.specs.Common.{ℕ, List, [], length, false, map, slice_get, Shape, Shape-F, EventShape, Value}
+use Rattle.std.specs.Prelude.{zero, suc, pos}
+use Rattle.epl_values.specs.declared.shape.Shape.{fold-Shape}
 use Rattle.epl_values.specs.declared.shape.Shape.TheOpen as layer
-use Rattle.epl_values.specs.declared.shape.EventShape.{EventShape}
-use Rattle.epl_values.specs.declared.value.Value.{Value}
 use Rattle.epl_values.specs.declared.value.Value.TheVariants as value
 use Rattle.event_types.specs.Types.{fields_of}
 

@@ -1,3 +1,4 @@
+pub mod Common
 pub mod Costs
 pub mod Defaults
 pub mod Shapes

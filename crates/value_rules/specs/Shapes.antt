@@ -1,12 +1,10 @@
 -- When a value has a shape.
-use Rattle.std.specs.Prelude.{List, [], ◌∷◌, Bool, true, false, ◌&&◌, ◌==◌, map, Option, Some, None, slice_get}
+use Rattle.value_rules.specs.Common.{List, [], ◌∷◌, Bool, true, false, ◌==◌, map, Option, Some, None, slice_get, Shape, Shape-F, EventShape, Value, Value-F, fold-Value, Pair, Pair-F, fold-Pair}
+use Rattle.std.specs.Prelude.{◌&&◌}
 use Rattle.std.specs.List.{list_all}
-use Rattle.epl_values.specs.declared.shape.Shape.{Shape, Shape-F, out-Shape}
+use Rattle.epl_values.specs.declared.shape.Shape.{out-Shape}
 use Rattle.epl_values.specs.declared.shape.Shape.TheOpen as shape
-use Rattle.epl_values.specs.declared.shape.EventShape.{EventShape}
-use Rattle.epl_values.specs.declared.value.Value.{Value, Value-F, fold-Value}
 use Rattle.epl_values.specs.declared.value.Value.TheOpen as layer
-use Rattle.epl_values.specs.declared.value.Pair.{Pair, Pair-F, fold-Pair}
 
 -- which shapes a part of a value has
 abbrev pub Fit : Type 0

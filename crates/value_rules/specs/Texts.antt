@@ -1,11 +1,9 @@
 -- How a value is written.
-use Rattle.std.specs.Prelude.{ℕ, List, [], ◌∷◌, ◌++◌, Bool, true, false, ◌==◌, if◌then◌else◌, Option, Some, None, unwrap_or, slice_get, codes}
+use Rattle.value_rules.specs.Common.{ℕ, List, [], ◌∷◌, Bool, true, false, ◌==◌, Option, Some, None, slice_get, EventShape, Value, Value-F, fold-Value, Pair, Pair-F, fold-Pair}
+use Rattle.std.specs.Prelude.{◌++◌, if◌then◌else◌, unwrap_or, codes}
 use Rattle.std.specs.Fmt.{signed_decimal}
 use Rattle.std.specs.List.{flat_map}
-use Rattle.epl_values.specs.declared.shape.EventShape.{EventShape}
-use Rattle.epl_values.specs.declared.value.Value.{Value, Value-F, fold-Value}
 use Rattle.epl_values.specs.declared.value.Value.TheOpen as layer
-use Rattle.epl_values.specs.declared.value.Pair.{Pair, Pair-F, fold-Pair}
 
 -- a quote, a backslash, a newline, a carriage return and a tab have an escape
 abbrev pub escape_of : ℕ → Option (List ℕ)

@@ -1,26 +1,16 @@
 -- Methods that change their object leave it a value of its shape.
-use Rattle.std.proofs.Common.{◌≡◌, ℕ, List, [], ◌∷◌, ◌++◌, length, Bool, true, false, Option, Some, None, Ok, Err, sym, subst, true≢false}
-use Rattle.std.specs.Prelude.{remove, nat_lt, is_some, if◌then◌else◌}
-use Rattle.std.proofs.lemmas.Bool.{false≢true}
-use Rattle.std.proofs.lemmas.Option.{none-some, same_Some}
-use Rattle.epl_values.specs.declared.shape.Shape.{Shape, Shape-F, out-Shape, roll-Shape, roll-out-Shape}
+use Rattle.value_shapes.proofs.Common.{◌≡◌, ℕ, List, [], ◌∷◌, ◌++◌, length, Bool, true, false, Option, Some, None, Ok, Err, sym, subst, true≢false, if◌then◌else◌, false≢true, none-some, same_Some, Shape, Shape-F, out-Shape, roll-Shape, roll-out-Shape, EventShape, Value, Value-F, out-Value, Pair, Fault, integer_of, natural, at_key, without_entry, all_joined, ok_same, Fit, AllFit}
+use Rattle.std.specs.Prelude.{remove, nat_lt, is_some}
 use Rattle.epl_values.specs.declared.shape.Shape.TheOpen as shape_layer
 use Rattle.epl_values.specs.declared.shape.Shape.TheVariants as shape
-use Rattle.epl_values.specs.declared.shape.EventShape.{EventShape}
-use Rattle.epl_values.specs.declared.value.Value.{Value, Value-F, out-Value}
 use Rattle.epl_values.specs.declared.value.Value.TheOpen as layer
 use Rattle.epl_values.specs.declared.value.Value.TheVariants as value
-use Rattle.epl_values.specs.declared.value.Pair.{Pair}
 use Rattle.typed_program.specs.declared.expression.Method.{Method}
 use Rattle.typed_program.specs.declared.expression.Method.TheVariants as method
 use Rattle.typed_program.specs.Methods.{Signature, of_layer, signature}
-use Rattle.action_host.specs.declared.host.Fault.{Fault}
 use Rattle.action_host.specs.declared.host.Fault.TheVariants as fault
-use Rattle.body_meaning.specs.Values.{integer_of, natural}
-use Rattle.body_meaning.specs.Paths.{at_key, without_entry}
 use Rattle.body_meaning.specs.Methods.{added_in, appended_in, changed_by, cleared_in, first, removed_in, removed_key, removed_place, second}
-use Rattle.value_steps.proofs.Kept.{all_joined, all_removed, fine, ok_same}
-use Rattle.value_shapes.specs.Fits.{Fit, AllFit}
+use Rattle.value_steps.proofs.Kept.{all_removed, fine}
 use Rattle.value_shapes.proofs.Entries.{without_fits}
 use Rattle.value_shapes.proofs.Layers.{EachFit, EntriesFit, LayerFits, dictionary_layer, fit_out, fit_rolled, sequence_layer}
 use Rattle.value_shapes.proofs.Lists.{fit_head, fit_tail}

@@ -1,22 +1,19 @@
 -- The defaults of shapes that stand in a typed program fit them.
-use Rattle.std.proofs.Common.{◌≡◌, ℕ, zero, suc, ◌<◌, List, [], ◌∷◌, length, map, flat_map, Bool, true, ◌&&◌, not, refl, sym, ap, ◌∙◌, subst}
-use Rattle.std.specs.List.{list_all, slice_get}
-use Rattle.std.proofs.lemmas.Bool.{and_parts, ltb-true}
-use Rattle.epl_values.specs.declared.shape.Shape.{Shape, Shape-F, out-Shape, roll-Shape, map-Shape, fold-Shape, fold_out-Shape, fold-roll-Shape, ind-Shape}
+use Rattle.value_shapes.proofs.Common.{◌≡◌, ℕ, zero, suc, List, [], ◌∷◌, length, map, Bool, true, refl, sym, ap, ◌∙◌, subst, list_all, and_parts, Shape, Shape-F, out-Shape, roll-Shape, map-Shape, fold-roll-Shape, ind-Shape, EventShape, Value, fields_of, AreOrderly, all_joined, Fit, AllFit}
+use Rattle.std.proofs.Common.{◌<◌, flat_map, ◌&&◌, not}
+use Rattle.std.specs.List.{slice_get}
+use Rattle.std.proofs.lemmas.Bool.{ltb-true}
+use Rattle.epl_values.specs.declared.shape.Shape.{fold-Shape, fold_out-Shape}
 use Rattle.epl_values.specs.declared.shape.Shape.TheOpen as layer
 use Rattle.epl_values.specs.declared.shape.Field.{Field}
-use Rattle.epl_values.specs.declared.shape.EventShape.{EventShape}
-use Rattle.epl_values.specs.declared.value.Value.{Value}
 use Rattle.typed_program.specs.declared.program.Program.{Program}
 use Rattle.typed_program.specs.Shapes.{Standing, holds_link, standing_step, stands}
 use Rattle.typed_program.specs.Typed.{Typed}
 use Rattle.value_rules.specs.Defaults.{default_by, default_event, default_of, default_step}
-use Rattle.event_types.specs.Types.{AreTypes, Form, HasKnownFields, fields_of, form_of, form_step, types_in}
+use Rattle.event_types.specs.Types.{AreTypes, Form, HasKnownFields, form_of, form_step, types_in}
 use Rattle.value_rules.proofs.Defaulted.{default_has}
-use Rattle.value_steps.specs.Orderly.{AreOrderly, IsOrderly}
+use Rattle.value_steps.specs.Orderly.{IsOrderly}
 use Rattle.value_steps.proofs.Called.{dictionary_orderly, event_orderly, integer_orderly, listener_orderly, none_orderly, sequence_orderly, text_orderly, truth_orderly}
-use Rattle.value_steps.proofs.Kept.{all_joined}
-use Rattle.value_shapes.specs.Fits.{Fit, AllFit}
 use Rattle.value_shapes.proofs.Lists.{fit_cons, fit_nil}
 
 -- ---- order

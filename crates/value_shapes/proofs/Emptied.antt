@@ -1,20 +1,16 @@
 -- A value that is emptied of listeners has the shapes that it had.
-use Rattle.std.proofs.Common.{◌≡◌, ℕ, List, [], ◌∷◌, map, refl, sym, ap, ap₂, ◌∙◌, subst}
-use Rattle.epl_values.specs.declared.shape.Shape.{Shape, Shape-F, out-Shape}
+use Rattle.value_shapes.proofs.Common.{◌≡◌, ℕ, List, [], ◌∷◌, map, refl, sym, ap, ap₂, ◌∙◌, subst, Shape, Shape-F, out-Shape, EventShape, Value, Value-F, roll-Value, map-Value, fold-roll-Value, Pair, PairFit, all_fit, fits, pair_fits, pair_has, AreOrderly, Fit, AllFit}
 use Rattle.epl_values.specs.declared.shape.Shape.TheOpen as shape_layer
-use Rattle.epl_values.specs.declared.shape.EventShape.{EventShape}
-use Rattle.epl_values.specs.declared.value.Value.{Value, Value-F, roll-Value, map-Value, fold-roll-Value, ind-Value}
+use Rattle.epl_values.specs.declared.value.Value.{ind-Value}
 use Rattle.epl_values.specs.declared.value.Value.TheOpen as layer
 use Rattle.epl_values.specs.declared.value.Value.TheOpen.{Pair-F}
 use Rattle.epl_values.specs.declared.value.Value.TheVariants as value
-use Rattle.epl_values.specs.declared.value.Pair.{Pair, roll-Pair, map-Pair, fold-roll-Pair}
+use Rattle.epl_values.specs.declared.value.Pair.{roll-Pair, map-Pair, fold-roll-Pair}
 use Rattle.body_meaning.specs.Effects.{emptied, emptied_pair, emptied_step}
-use Rattle.value_rules.specs.Shapes.{Fit as Test, PairFit, all_fit, fits, has, pair_fits, pair_has}
+use Rattle.value_rules.specs.Shapes.{Fit as Test, has}
 use Rattle.value_steps.specs.Emptied.{emptied_entry}
-use Rattle.value_steps.specs.Orderly.{AreOrderly}
 use Rattle.value_steps.proofs.Emptying.{rolled}
 use Rattle.value_steps.proofs.StillOrderly.{emptied_orderly}
-use Rattle.value_shapes.specs.Fits.{Fit, AllFit}
 
 module _ (types : List EventShape) where
   -- which shapes a layer has

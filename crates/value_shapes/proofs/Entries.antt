@@ -1,17 +1,9 @@
 -- Entries that fit, with one put in or taken out.
-use Rattle.std.proofs.Common.{◌≡◌, List, [], ◌∷◌, Bool, true, false, refl}
-use Rattle.std.specs.List.{AllByRecursion}
+use Rattle.value_shapes.proofs.Common.{◌≡◌, List, [], ◌∷◌, Bool, true, false, refl, AllByRecursion, Shape, EventShape, Value, Pair, out-Pair, KeysAscend, order_of, is_key, with_entry, without_entry, Fit}
 use Rattle.std.specs.declared.cmp.Ordering.{Ordering}
 use Rattle.std.specs.declared.cmp.Ordering.TheVariants.{Less, Equal, Greater}
-use Rattle.epl_values.specs.declared.shape.Shape.{Shape}
-use Rattle.epl_values.specs.declared.shape.EventShape.{EventShape}
-use Rattle.epl_values.specs.declared.value.Value.{Value}
-use Rattle.epl_values.specs.declared.value.Pair.{Pair, out-Pair}
-use Rattle.epl_values.specs.Order.{KeysAscend, order_of}
-use Rattle.body_meaning.specs.Paths.{is_key, with_entry, without_entry}
 use Rattle.value_steps.proofs.Ascending.{ascend_with}
 use Rattle.value_steps.proofs.Called.{ascend_without}
-use Rattle.value_shapes.specs.Fits.{Fit}
 use Rattle.value_shapes.proofs.Layers.{EntriesFit}
 
 module _ (types : List EventShape) where

@@ -1,10 +1,6 @@
 -- Values of shapes that may be known.
-use Rattle.std.proofs.Common.{◌≡◌, List, [], ◌∷◌, map, Option, Some, sym, subst}
-use Rattle.std.proofs.lemmas.Bool.{false≢true}
-use Rattle.epl_values.specs.declared.shape.Shape.{Shape}
-use Rattle.epl_values.specs.declared.shape.EventShape.{EventShape}
-use Rattle.epl_values.specs.declared.value.Value.{Value}
-use Rattle.value_shapes.specs.Fits.{Fit, AllFit, AllMayFit, MayFit}
+use Rattle.value_shapes.proofs.Common.{◌≡◌, List, [], ◌∷◌, map, Option, Some, sym, subst, false≢true, Shape, EventShape, Value, Fit, AllFit}
+use Rattle.value_shapes.specs.Fits.{AllMayFit, MayFit}
 use Rattle.value_shapes.proofs.Lists.{fit_cons, fit_head, fit_nil, fit_tail}
 
 module _ (types : List EventShape) where

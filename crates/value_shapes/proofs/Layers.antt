@@ -1,21 +1,13 @@
 -- Values that fit shapes, layer by layer: what is in them, and what is made of parts that fit.
-use Rattle.std.proofs.Common.{◌≡◌, ℕ, List, [], ◌∷◌, map, true, ◌==◌, Option, Some, None, refl, sym, ap, ◌∙◌, subst, true≢false}
-use Rattle.std.specs.Prelude.{slice_get}
-use Rattle.std.specs.List.{AllByRecursion, list_all}
-use Rattle.std.proofs.lemmas.Bool.{and_parts, and_from, eqb-true, eq-eqb}
-use Rattle.epl_values.specs.declared.shape.Shape.{Shape, Shape-F, out-Shape, roll-Shape, out-roll-Shape}
+use Rattle.value_shapes.proofs.Common.{◌≡◌, ℕ, List, [], ◌∷◌, map, true, Option, Some, None, refl, sym, ap, ◌∙◌, subst, true≢false, slice_get, AllByRecursion, list_all, and_parts, and_from, eqb-true, eq-eqb, Shape, Shape-F, out-Shape, roll-Shape, out-roll-Shape, EventShape, Value, Value-F, out-Value, roll-Value, map-Value, fold-roll-Value, Pair, KeysAscend, PairFit, all_fit, fits, pair_fits, pair_has, fields_of, AreOrderly, Fit, AllFit}
+use Rattle.std.proofs.Common.{◌==◌}
 use Rattle.epl_values.specs.declared.shape.Shape.TheOpen as shape_layer
-use Rattle.epl_values.specs.declared.shape.EventShape.{EventShape}
-use Rattle.epl_values.specs.declared.value.Value.{Value, Value-F, out-Value, roll-Value, map-Value, fold_out-Value, fold-roll-Value}
+use Rattle.epl_values.specs.declared.value.Value.{fold_out-Value}
 use Rattle.epl_values.specs.declared.value.Value.TheOpen as layer
-use Rattle.epl_values.specs.declared.value.Pair.{Pair}
-use Rattle.epl_values.specs.Order.{KeysAscend}
-use Rattle.value_rules.specs.Shapes.{Fit as Test, PairFit, all_fit, event_fits, fits, has, pair_fits, pair_has}
-use Rattle.event_types.specs.Types.{fields_of}
+use Rattle.value_rules.specs.Shapes.{Fit as Test, event_fits, has}
 use Rattle.value_rules.proofs.Having.{pair-has}
-use Rattle.value_steps.specs.Orderly.{AreOrderly, AreOrderlyPairs, KeysInOrder}
+use Rattle.value_steps.specs.Orderly.{AreOrderlyPairs, KeysInOrder}
 use Rattle.value_steps.proofs.Parted.{PartsInOrder, keys_orderly, orderly_made, parts_orderly}
-use Rattle.value_shapes.specs.Fits.{Fit, AllFit}
 
 -- each value of several fits one shape
 abbrev pub EachFit : List EventShape → Shape → List Value → Type 0

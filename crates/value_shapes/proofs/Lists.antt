@@ -1,16 +1,10 @@
 -- Lists of values that fit their shapes: read, changed, grown and taken apart.
-use Rattle.std.proofs.Common.{◌≡◌, ℕ, zero, suc, List, [], ◌∷◌, ◌++◌, length, Some, refl, subst, slice_set}
+use Rattle.value_shapes.proofs.Common.{◌≡◌, ℕ, zero, suc, List, [], ◌∷◌, ◌++◌, length, Some, refl, subst, and_parts, and_from, false≢true, none-some, same_Some, Shape, EventShape, Value, all_get, all_set, Fit, AllFit}
+use Rattle.std.proofs.Common.{slice_set}
 use Rattle.std.specs.List.{slice_get}
-use Rattle.std.proofs.lemmas.Bool.{and_parts, and_from, false≢true}
-use Rattle.std.proofs.lemmas.Option.{none-some, same_Some}
-use Rattle.epl_values.specs.declared.shape.Shape.{Shape}
-use Rattle.epl_values.specs.declared.shape.EventShape.{EventShape}
-use Rattle.epl_values.specs.declared.value.Value.{Value}
 use Rattle.value_rules.specs.Shapes.{has, shapes_have}
 use Rattle.value_rules.proofs.Shaped.{have-at, have-length, have-set}
 use Rattle.value_steps.specs.Orderly.{IsOrderly}
-use Rattle.value_steps.proofs.Kept.{all_get, all_set}
-use Rattle.value_shapes.specs.Fits.{Fit, AllFit}
 
 module _ (types : List EventShape) where
   -- no values have no shapes

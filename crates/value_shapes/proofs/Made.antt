@@ -1,19 +1,11 @@
 -- Values of each kind that fit: what is made of parts that fit, and the parts of what fits.
-use Rattle.std.proofs.Common.{◌≡◌, ℕ, ℤ, List, map, Bool, Some, refl, sym, subst, true≢false}
-use Rattle.std.specs.Prelude.{slice_get}
-use Rattle.std.specs.List.{AllByRecursion}
-use Rattle.epl_values.specs.declared.shape.Shape.{Shape, Shape-F, roll-Shape}
+use Rattle.value_shapes.proofs.Common.{◌≡◌, ℕ, ℤ, List, map, Bool, Some, refl, sym, subst, true≢false, slice_get, AllByRecursion, Shape, Shape-F, roll-Shape, EventShape, Value, Value-F, out-Value, roll-Value, Pair, KeysAscend, fields_of, pairs_of, Fit, AllFit}
 use Rattle.epl_values.specs.declared.shape.Shape.TheOpen as shape_layer
 use Rattle.epl_values.specs.declared.shape.Shape.TheVariants as shape
-use Rattle.epl_values.specs.declared.shape.EventShape.{EventShape}
-use Rattle.epl_values.specs.declared.value.Value.{Value, Value-F, out-Value, roll-Value}
 use Rattle.epl_values.specs.declared.value.Value.TheOpen as layer
 use Rattle.epl_values.specs.declared.value.Value.TheVariants as value
-use Rattle.epl_values.specs.declared.value.Pair.{Pair}
-use Rattle.epl_values.specs.Order.{KeysAscend}
-use Rattle.event_types.specs.Types.{fields_of}
-use Rattle.body_meaning.specs.Values.{items_in, items_of, pairs_in, pairs_of, fields_in}
-use Rattle.value_shapes.specs.Fits.{Fit, AllFit, IsEvent}
+use Rattle.body_meaning.specs.Values.{items_in, items_of, pairs_in, fields_in}
+use Rattle.value_shapes.specs.Fits.{IsEvent}
 use Rattle.value_shapes.proofs.Layers.{EachFit, EntriesFit, LayerFits, dictionary_layer, event_known, event_layer, event_number, fit_out, fit_rolled, layer_dictionary, layer_event, layer_sequence, sequence_layer}
 
 module _ (types : List EventShape) where

@@ -1,24 +1,13 @@
 -- A part of a value fits the shape that its step leads to, and the value keeps its shape with another such part.
-use Rattle.std.proofs.Common.{◌≡◌, ℕ, ℤ, List, [], ◌∷◌, map, Bool, true, false, Option, Some, None, Ok, refl, sym, ◌∙◌, subst}
-use Rattle.std.specs.Prelude.{slice_get, slice_set}
+use Rattle.value_shapes.proofs.Common.{◌≡◌, ℕ, ℤ, List, [], ◌∷◌, map, Bool, true, false, Option, Some, None, Ok, refl, sym, ◌∙◌, subst, slice_get, Shape, Shape-F, out-Shape, roll-Shape, roll-out-Shape, EventShape, Value, Value-F, out-Value, Pair, KeysAscend, Fault, Move, natural, at_key, is_key, part, part_in, with_entry, with_part, with_part_in, fields_of, all_get, all_set, Fit, StepsTo}
+use Rattle.std.specs.Prelude.{slice_set}
 use Rattle.std.specs.Option.{option_and_then}
-use Rattle.epl_values.specs.declared.shape.Shape.{Shape, Shape-F, out-Shape, roll-Shape, roll-out-Shape}
 use Rattle.epl_values.specs.declared.shape.Shape.TheOpen as shape_layer
 use Rattle.epl_values.specs.declared.shape.Shape.TheVariants as shape
-use Rattle.epl_values.specs.declared.shape.EventShape.{EventShape}
-use Rattle.epl_values.specs.declared.value.Value.{Value, Value-F, out-Value}
 use Rattle.epl_values.specs.declared.value.Value.TheOpen as layer
 use Rattle.epl_values.specs.declared.value.Value.TheVariants as value
-use Rattle.epl_values.specs.declared.value.Pair.{Pair}
-use Rattle.epl_values.specs.Order.{KeysAscend}
-use Rattle.action_host.specs.declared.host.Fault.{Fault}
-use Rattle.body_meaning.specs.declared.run.Move.{Move}
 use Rattle.body_meaning.specs.declared.run.Move.TheVariants as move
-use Rattle.body_meaning.specs.Values.{natural}
-use Rattle.body_meaning.specs.Paths.{at_key, entry_value, is_key, or_fault, part, part_in, set_at, with_entry, with_part, with_part_in}
-use Rattle.event_types.specs.Types.{fields_of}
-use Rattle.value_steps.proofs.Kept.{all_get, all_set}
-use Rattle.value_shapes.specs.Fits.{Fit, StepsTo}
+use Rattle.body_meaning.specs.Paths.{entry_value, or_fault, set_at}
 use Rattle.value_shapes.proofs.Entries.{entry_fits}
 use Rattle.value_shapes.proofs.Layers.{EachFit, EntriesFit, EntryFit, LayerFits, dictionary_layer, event_known, event_layer, event_number, fit_out, fit_rolled, sequence_layer}
 use Rattle.value_shapes.proofs.Lists.{fit_at, fit_set}

@@ -1,21 +1,14 @@
 -- What operators and methods give has its shape.
-use Rattle.std.proofs.Common.{◌≡◌, ℕ, ℤ, List, [], ◌∷◌, length, map, Bool, true, false, Ok, Err, subst}
-use Rattle.std.specs.Prelude.{Result, nat_le, if◌then◌else◌, neg_ℤ}
-use Rattle.epl_values.specs.declared.shape.Shape.{Shape}
+use Rattle.value_shapes.proofs.Common.{◌≡◌, ℕ, ℤ, List, [], ◌∷◌, length, map, Bool, true, false, Ok, Err, subst, Result, if◌then◌else◌, Shape, EventShape, Value, Pair, out-Pair, order_of, Fault, integer_of, pairs_of, ok_same, Fit}
+use Rattle.std.specs.Prelude.{nat_le, neg_ℤ}
 use Rattle.epl_values.specs.declared.shape.Shape.TheVariants as shape
-use Rattle.epl_values.specs.declared.shape.EventShape.{EventShape}
-use Rattle.epl_values.specs.declared.value.Value.{Value}
 use Rattle.epl_values.specs.declared.value.Value.TheVariants as value
-use Rattle.epl_values.specs.declared.value.Pair.{Pair, out-Pair}
-use Rattle.epl_values.specs.Order.{order_of}
 use Rattle.epl_tree.specs.declared.expression.Comparison.{Comparison}
 use Rattle.epl_tree.specs.declared.expression.Operator.{Operator}
-use Rattle.action_host.specs.declared.host.Fault.{Fault}
 use Rattle.action_host.specs.declared.host.Fault.TheVariants as fault
-use Rattle.body_meaning.specs.Values.{arithmetic, bounded, calculated, compared, fitting, holds, integer_of, integer_result, negated, pairs_of}
+use Rattle.body_meaning.specs.Values.{arithmetic, bounded, calculated, compared, fitting, holds, integer_result, negated}
 use Rattle.body_meaning.specs.Methods.{keys_of, place_of, size_of}
-use Rattle.value_steps.proofs.Kept.{fine, ok_same}
-use Rattle.value_shapes.specs.Fits.{Fit}
+use Rattle.value_steps.proofs.Kept.{fine}
 use Rattle.value_shapes.proofs.Layers.{EachFit, EntriesFit}
 use Rattle.value_shapes.proofs.Made.{boolean_fits, dictionary_entries, integer_fits, sequence_made, text_fits}
 

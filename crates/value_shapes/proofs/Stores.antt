@@ -1,17 +1,9 @@
 -- A value that is changed at the end of a path keeps its shape.
-use Rattle.std.proofs.Common.{◌≡◌, List, [], ◌∷◌, Ok, Err, refl, sym, subst}
-use Rattle.std.specs.Prelude.{Result}
-use Rattle.epl_values.specs.declared.shape.Shape.{Shape, out-Shape}
-use Rattle.epl_values.specs.declared.shape.EventShape.{EventShape}
-use Rattle.epl_values.specs.declared.value.Value.{Value, Value-F, out-Value}
+use Rattle.value_shapes.proofs.Common.{◌≡◌, List, [], ◌∷◌, Ok, Err, refl, sym, subst, Result, Shape, out-Shape, EventShape, Value, Value-F, out-Value, Pair, Fault, Move, part, part_in, with_part, with_part_in, ok_same, Fit, StepsTo}
 use Rattle.epl_values.specs.declared.value.Value.TheOpen as layer
-use Rattle.epl_values.specs.declared.value.Pair.{Pair}
-use Rattle.action_host.specs.declared.host.Fault.{Fault}
-use Rattle.body_meaning.specs.declared.run.Move.{Move}
 use Rattle.body_meaning.specs.declared.run.Move.TheVariants as move
-use Rattle.body_meaning.specs.Paths.{altered, part, part_in, put, put_in, stored, then_try, with_part, with_part_in}
-use Rattle.value_steps.proofs.Kept.{ok_same}
-use Rattle.value_shapes.specs.Fits.{Fit, LeadsTo, StepsTo}
+use Rattle.body_meaning.specs.Paths.{altered, put, put_in, stored, then_try}
+use Rattle.value_shapes.specs.Fits.{LeadsTo}
 use Rattle.value_shapes.proofs.Parts.{part_fits, with_part_fits}
 
 try_ok : {A B : Type 0} (p : Result A Fault) (F : A → Result B Fault) (w : B) → then_try p F ≡ Ok w → (x : A) × (p ≡ Ok x) × (F x ≡ Ok w)

@@ -1,16 +1,11 @@
 -- Entries whose keys ascend: where a key stands, and what stays in order.
-use Rattle.std.proofs.Common.{◌≡◌, ℕ, zero, suc, ◌+◌, ◌<◌, ◌≤◌, Bool, true, false, List, [], ◌∷◌, length, map, Option, Some, None, Ok, Err, refl, sym, ap, ◌∙◌, arith}
-use Rattle.std.specs.Prelude.{slice_get, slice_set, slice_index_or, insert, remove, Result}
+use Rattle.value_steps.proofs.Common.{◌≡◌, ℕ, zero, suc, ◌+◌, ◌<◌, ◌≤◌, Bool, true, false, List, [], ◌∷◌, length, map, Option, Some, None, Ok, Err, refl, sym, ap, ◌∙◌, arith, slice_get, slice_set, remove, Result, Ordering, Less, Equal, Greater, AllByRecursion, Value, Pair, out-Pair, order_of, scalar_of, AscendFrom, KeysAscend, at_key, is_key, entry, entry_value, with_entry, without_entry}
+use Rattle.std.specs.Prelude.{slice_index_or, insert}
 use Rattle.std.specs.Option.{option_map}
-use Rattle.std.specs.declared.cmp.Ordering.{Ordering}
-use Rattle.std.specs.declared.cmp.Ordering.TheVariants.{Less, Equal, Greater}
-use Rattle.std.specs.List.{AllByRecursion, AllWithin}
+use Rattle.std.specs.List.{AllWithin}
 use Rattle.std.specs.List.Sorted.{IsPartitionedBy, IsPartitionPoint}
-use Rattle.epl_values.specs.declared.value.Value.{Value}
-use Rattle.epl_values.specs.declared.value.Pair.{Pair, out-Pair}
-use Rattle.epl_values.specs.Order.{order_of, scalar_of, AscendFrom, KeysAscend}
 use Rattle.body_meaning.specs.Values.{is_less, is_equal}
-use Rattle.body_meaning.specs.Paths.{at_key, is_key, entry, entry_value, by_order, with_entry, without_entry}
+use Rattle.body_meaning.specs.Paths.{by_order}
 use Rattle.value_steps.specs.Entries.{behind, place_in, is_before, count_before}
 use Rattle.value_steps.proofs.Scalars.{less_less, turned, greater_behind}
 

@@ -1,21 +1,11 @@
 -- What methods make of values in order is in order.
-use Rattle.std.proofs.Common.{◌≡◌, ℕ, zero, suc, Bool, true, false, List, [], ◌∷◌, ◌++◌, map, Option, Some, None, Ok, Err, refl, sym, ap, ◌∙◌, subst}
-use Rattle.std.specs.Prelude.{ℤ, Result, slice_get, remove, is_some, nat_lt, length, if◌then◌else◌}
-use Rattle.std.specs.List.{AllByRecursion}
-use Rattle.std.specs.declared.cmp.Ordering.TheVariants.{Less}
-use Rattle.epl_values.specs.declared.value.Value.{Value, Value-F, out-Value, roll-Value}
+use Rattle.value_steps.proofs.Common.{◌≡◌, ℕ, zero, suc, Bool, true, false, List, [], ◌∷◌, ◌++◌, map, Option, Some, None, Ok, Err, refl, sym, ap, ◌∙◌, subst, ℤ, Result, slice_get, remove, is_some, nat_lt, if◌then◌else◌, AllByRecursion, Less, Value, Value-F, out-Value, roll-Value, Pair, out-Pair, AscendFrom, KeysAscend, order_of, Method, Fault, integer_of, natural, at_key, is_key, with_entry, without_entry, added_in, appended_in, changed_by, cleared_in, first, removed_in, removed_key, removed_place, second, AreOrderly, IsOrderlyPair, AreOrderlyPairs, KeysInOrder}
+use Rattle.std.specs.Prelude.{length}
 use Rattle.epl_values.specs.declared.value.Value.TheOpen as layer
 use Rattle.epl_values.specs.declared.value.Value.TheVariants as value
-use Rattle.epl_values.specs.declared.value.Pair.{Pair, out-Pair}
-use Rattle.epl_values.specs.Order.{AscendFrom, KeysAscend, order_of}
-use Rattle.typed_program.specs.declared.expression.Method.{Method}
 use Rattle.typed_program.specs.declared.expression.Method.TheVariants as method
-use Rattle.action_host.specs.declared.host.Fault.{Fault}
 use Rattle.action_host.specs.declared.host.Fault.TheVariants as fault
-use Rattle.body_meaning.specs.Values.{integer_of, natural}
-use Rattle.body_meaning.specs.Paths.{at_key, is_key, with_entry, without_entry}
-use Rattle.body_meaning.specs.Methods.{added_in, appended_in, changed_by, cleared_in, first, removed_in, removed_key, removed_place, second}
-use Rattle.value_steps.specs.Orderly.{IsOrderly, AreOrderly, IsOrderlyPair, AreOrderlyPairs, KeysInOrder}
+use Rattle.value_steps.specs.Orderly.{IsOrderly}
 use Rattle.value_steps.proofs.Ascending.{ascend_with}
 use Rattle.value_steps.proofs.Kept.{all_joined, all_removed, fine, ok_same, with_orderly}
 use Rattle.value_steps.proofs.Parted.{PartsInOrder, keys_orderly, orderly_made, parts_orderly}

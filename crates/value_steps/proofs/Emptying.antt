@@ -1,17 +1,12 @@
 -- Emptied values: their keys are in the order that they had.
-use Rattle.std.proofs.Common.{◌≡◌, ℕ, zero, suc, ◌+◌, ◌<◌, List, [], ◌∷◌, ◌++◌, map, take, get_or, refl, sym, ap, ◌∙◌, subst, add-one, length}
-use Rattle.std.proofs.Math.Seq.{take-suc}
+use Rattle.value_steps.proofs.Common.{◌≡◌, ℕ, zero, suc, ◌+◌, ◌<◌, List, [], ◌∷◌, ◌++◌, map, take, get_or, refl, sym, ap, ◌∙◌, subst, add-one, length, take-suc, AllByRecursion, Less, Value, Value-F, out-Value, roll-Value, roll-out-Value, map-Value, Pair, out-Pair, roll-Pair, roll-out-Pair, Scalar, AscendFrom, KeysAscend, order_of, scalar_cmp, scalar_of, emptied, emptied_step, entry, emptied_entry}
 use Rattle.std.proofs.lemmas.List.{map-append}
-use Rattle.std.specs.List.{AllByRecursion}
-use Rattle.std.specs.declared.cmp.Ordering.TheVariants.{Less}
-use Rattle.epl_values.specs.declared.value.Value.{Value, Value-F, out-Value, roll-Value, roll-out-Value, fold-roll-Value, map-Value}
+use Rattle.epl_values.specs.declared.value.Value.{fold-roll-Value}
 use Rattle.epl_values.specs.declared.value.Value.TheOpen as layer
 use Rattle.epl_values.specs.declared.value.Value.TheVariants as value
-use Rattle.epl_values.specs.declared.value.Pair.{Pair, out-Pair, roll-Pair, roll-out-Pair, fold-Pair, fold-roll-Pair}
-use Rattle.epl_values.specs.Order.{Scalar, AscendFrom, KeysAscend, order_of, pair_scalar, scalar_cmp, scalar_of, scalar_step}
-use Rattle.body_meaning.specs.Effects.{emptied, emptied_pair, emptied_step}
-use Rattle.body_meaning.specs.Paths.{entry}
-use Rattle.value_steps.specs.Emptied.{emptied_entry}
+use Rattle.epl_values.specs.declared.value.Pair.{fold-Pair, fold-roll-Pair}
+use Rattle.epl_values.specs.Order.{pair_scalar, scalar_step}
+use Rattle.body_meaning.specs.Effects.{emptied_pair}
 
 pub rolled : (l : Value-F Value Pair) → emptied (roll-Value l) ≡ emptied_step (map-Value Value Pair Value Pair emptied emptied_entry l)
 rolled l = fold-roll-Value Value Pair emptied_step emptied_pair l

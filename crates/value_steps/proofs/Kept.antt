@@ -1,28 +1,13 @@
 -- Changes keep values in order.
-use Rattle.std.proofs.Common.{◌≡◌, ℕ, zero, suc, Bool, true, false, List, [], ◌∷◌, ◌++◌, map, Option, Some, None, Ok, Err, refl, sym, ap, ◌∙◌, subst}
-use Rattle.std.specs.Prelude.{ℤ, Result, slice_get, slice_set, remove, is_some, nat_lt, length, if◌then◌else◌}
-use Rattle.std.specs.Option.{option_and_then}
-use Rattle.std.specs.List.{AllByRecursion}
-use Rattle.std.specs.declared.cmp.Ordering.{Ordering}
-use Rattle.std.specs.declared.cmp.Ordering.TheVariants.{Less, Equal, Greater}
-use Rattle.epl_values.specs.declared.value.Value.{Value, Value-F, out-Value, roll-Value}
+use Rattle.value_steps.proofs.Common.{◌≡◌, ℕ, zero, suc, Bool, true, false, List, [], ◌∷◌, ◌++◌, map, Option, Some, None, Ok, Err, refl, sym, ap, ◌∙◌, subst, ℤ, Result, slice_get, slice_set, remove, is_some, nat_lt, if◌then◌else◌, option_and_then, AllByRecursion, Ordering, Less, Equal, Greater, Value, Value-F, out-Value, roll-Value, Pair, out-Pair, roll-Pair, KeysAscend, order_of, Method, Fault, Move, integer_of, natural, altered, at_key, entry, entry_value, is_key, or_fault, part, part_in, put, put_in, set_at, stored, then_try, with_entry, with_part, with_part_in, without_entry, added_in, appended_in, changed_by, cleared_in, first, removed_in, removed_key, removed_place, second, Trouble, Leaves, AreOrderly, IsOrderlyPair, AreOrderlyPairs, KeysInOrder}
+use Rattle.std.specs.Prelude.{length}
 use Rattle.epl_values.specs.declared.value.Value.TheOpen as layer
 use Rattle.epl_values.specs.declared.value.Value.TheVariants as value
-use Rattle.epl_values.specs.declared.value.Pair.{Pair, out-Pair, roll-Pair}
-use Rattle.epl_values.specs.Order.{KeysAscend, order_of}
-use Rattle.typed_program.specs.declared.expression.Method.{Method}
 use Rattle.typed_program.specs.declared.expression.Method.TheVariants as method
-use Rattle.action_host.specs.declared.host.Fault.{Fault}
 use Rattle.action_host.specs.declared.host.Fault.TheVariants as fault
-use Rattle.body_meaning.specs.declared.run.Move.{Move}
 use Rattle.body_meaning.specs.declared.run.Move.TheVariants as move
-use Rattle.body_meaning.specs.Values.{integer_of, natural}
-use Rattle.body_meaning.specs.Paths.{altered, at_key, entry, entry_value, is_key, or_fault, part, part_in, put, put_in, set_at, stored, then_try, with_entry, with_part, with_part_in, without_entry}
-use Rattle.body_meaning.specs.Methods.{added_in, appended_in, changed_by, cleared_in, first, removed_in, removed_key, removed_place, second}
-use Rattle.value_steps.specs.declared.trouble.Trouble.{Trouble}
 use Rattle.value_steps.specs.declared.trouble.Trouble.TheVariants as trouble
-use Rattle.value_steps.specs.Changed.{Leaves}
-use Rattle.value_steps.specs.Orderly.{IsOrderly, AreOrderly, IsOrderlyPair, AreOrderlyPairs, IsOrderlyMove, AreOrderlyMoves, KeysInOrder}
+use Rattle.value_steps.specs.Orderly.{IsOrderly, IsOrderlyMove, AreOrderlyMoves}
 use Rattle.value_steps.proofs.Ascending.{ascend_with}
 use Rattle.value_steps.proofs.Parted.{PartsInOrder, keys_orderly, orderly_made, parts_orderly}
 

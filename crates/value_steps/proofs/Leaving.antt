@@ -1,21 +1,10 @@
 -- What a change of a part leaves of the whole.
-use Rattle.std.proofs.Common.{◌≡◌, ℕ, zero, suc, ◌<◌, List, [], ◌∷◌, ◌++◌, map, Option, Some, None, Ok, Err, refl, sym, ap, ◌∙◌, subst, arith}
-use Rattle.std.specs.Prelude.{ℤ, Result, slice_get, slice_set}
-use Rattle.std.specs.Option.{option_and_then}
-use Rattle.epl_values.specs.declared.value.Value.{Value, Value-F, out-Value, roll-Value}
+use Rattle.value_steps.proofs.Common.{◌≡◌, ℕ, zero, suc, ◌<◌, List, [], ◌∷◌, ◌++◌, map, Option, Some, None, Ok, Err, refl, sym, ap, ◌∙◌, subst, arith, ℤ, Result, slice_get, slice_set, option_and_then, Value, Value-F, out-Value, roll-Value, Pair, out-Pair, roll-Pair, roll-out-Pair, KeysAscend, Fault, Move, natural, altered, at_key, entry, entry_value, or_fault, part, part_in, put, put_in, set_at, stored, then_try, with_entry, with_part, with_part_in, Trouble, Leaves, entry_altered, item_altered, place_altered, with_item, with_place}
 use Rattle.epl_values.specs.declared.value.Value.TheOpen as layer
 use Rattle.epl_values.specs.declared.value.Value.TheVariants as value
-use Rattle.epl_values.specs.declared.value.Pair.{Pair, out-Pair, roll-Pair, roll-out-Pair}
-use Rattle.epl_values.specs.Order.{KeysAscend}
-use Rattle.action_host.specs.declared.host.Fault.{Fault}
 use Rattle.action_host.specs.declared.host.Fault.TheVariants as fault
-use Rattle.body_meaning.specs.declared.run.Move.{Move}
 use Rattle.body_meaning.specs.declared.run.Move.TheVariants as move
-use Rattle.body_meaning.specs.Values.{natural}
-use Rattle.body_meaning.specs.Paths.{altered, at_key, entry, entry_value, or_fault, part, part_in, put, put_in, set_at, stored, then_try, with_entry, with_part, with_part_in}
-use Rattle.value_steps.specs.declared.trouble.Trouble.{Trouble}
 use Rattle.value_steps.specs.declared.trouble.Trouble.TheVariants as trouble
-use Rattle.value_steps.specs.Changed.{Leaves, entry_altered, item_altered, place_altered, with_item, with_place}
 use Rattle.value_steps.specs.Entries.{place_in}
 use Rattle.value_steps.proofs.Ascending.{at_found, at_missing, set_twice, with_replaced}
 

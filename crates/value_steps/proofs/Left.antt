@@ -1,18 +1,9 @@
 -- What changes leave, with what stands in each place told by an equation.
-use Rattle.std.proofs.Common.{◌≡◌, ℕ, List, [], ◌∷◌, ◌++◌, Option, Some, None, Ok, Err, refl, sym, ap, ◌∙◌, subst}
-use Rattle.std.specs.Prelude.{ℤ, Result, slice_get, slice_set, remove, is_some, if◌then◌else◌}
-use Rattle.epl_values.specs.declared.value.Value.{Value}
+use Rattle.value_steps.proofs.Common.{◌≡◌, ℕ, List, [], ◌∷◌, ◌++◌, Option, Some, None, Ok, Err, refl, sym, ap, ◌∙◌, subst, ℤ, Result, slice_get, slice_set, remove, is_some, if◌then◌else◌, Value, Pair, out-Pair, KeysAscend, Fault, Move, natural, altered, entry, put, stored, with_entry, without_entry, Trouble, Leaves, entry_altered, item_altered, place_altered, with_item, with_place}
 use Rattle.epl_values.specs.declared.value.Value.TheVariants as value
-use Rattle.epl_values.specs.declared.value.Pair.{Pair, out-Pair}
-use Rattle.epl_values.specs.Order.{KeysAscend}
-use Rattle.action_host.specs.declared.host.Fault.{Fault}
 use Rattle.action_host.specs.declared.host.Fault.TheVariants as fault
-use Rattle.body_meaning.specs.declared.run.Move.{Move}
 use Rattle.body_meaning.specs.declared.run.Move.TheVariants as move
-use Rattle.body_meaning.specs.Values.{natural}
-use Rattle.body_meaning.specs.Paths.{altered, entry, put, stored, with_entry, without_entry}
-use Rattle.value_steps.specs.declared.trouble.Trouble.{Trouble}
-use Rattle.value_steps.specs.Changed.{Leaves, entry_altered, item_altered, place_altered, with_item, with_place, without_key}
+use Rattle.value_steps.specs.Changed.{without_key}
 use Rattle.value_steps.specs.Entries.{place_in}
 use Rattle.value_steps.proofs.Ascending.{ascend_set_twice, at_found, at_missing, set_twice, with_replaced, without_placed}
 use Rattle.value_steps.proofs.Leaving.{entry_leaves, item_leaves, leaves_dictionary, leaves_event, leaves_sequence, put_dictionary, put_event, put_sequence, stored_is}

@@ -1,3 +1,4 @@
+mod Common
 pub mod Ascending
 pub mod Called
 pub mod Cutting

@@ -1,13 +1,10 @@
 -- Values in order: their parts, and what is made of parts in order.
-use Rattle.std.proofs.Common.{◌≡◌, ℕ, zero, suc, List, [], ◌∷◌, ◌++◌, map, Some, refl, sym, ap, ◌∙◌, subst}
-use Rattle.std.specs.List.{AllByRecursion}
-use Rattle.epl_values.specs.declared.value.Value.{Value, Value-F, out-Value, roll-Value, roll-out-Value, map-Value, every-Value, every_here-Value, every_held-Value, every_made-Value}
+use Rattle.value_steps.proofs.Common.{◌≡◌, ℕ, zero, suc, List, [], ◌∷◌, ◌++◌, map, Some, refl, sym, ap, ◌∙◌, subst, AllByRecursion, Value, Value-F, out-Value, roll-Value, roll-out-Value, map-Value, Pair-F, Pair, out-Pair, roll-Pair, roll-out-Pair, map-Pair, KeysAscend, AreOrderly, IsOrderlyPair, AreOrderlyPairs, KeysInOrder}
+use Rattle.epl_values.specs.declared.value.Value.{every-Value, every_here-Value, every_held-Value, every_made-Value}
 use Rattle.epl_values.specs.declared.value.Value.TheOpen as layer
-use Rattle.epl_values.specs.declared.value.Value.TheOpen.{Pair-F}
 use Rattle.epl_values.specs.declared.value.Value.TheVariants as value
-use Rattle.epl_values.specs.declared.value.Pair.{Pair, out-Pair, roll-Pair, roll-out-Pair, map-Pair, every-Pair, every_here-Pair, every_held-Pair, every_made-Pair}
-use Rattle.epl_values.specs.Order.{KeysAscend}
-use Rattle.value_steps.specs.Orderly.{IsOrderly, AreOrderly, IsOrderlyPair, AreOrderlyPairs, KeysInOrder, NothingAsked}
+use Rattle.epl_values.specs.declared.value.Pair.{every-Pair, every_here-Pair, every_held-Pair, every_made-Pair}
+use Rattle.value_steps.specs.Orderly.{IsOrderly, NothingAsked}
 
 -- ---- lists of parts that are in order
 

@@ -1,11 +1,9 @@
 -- The order of scalars is that of their kind, and less and greater hold within a kind alone.
-use Rattle.std.proofs.Common.{◌≡◌, ℕ, Bool, true, false, List, refl, sym, ap, ◌∙◌, arith}
-use Rattle.std.specs.declared.cmp.Ordering.{Ordering}
-use Rattle.std.specs.declared.cmp.Ordering.TheVariants.{Less, Equal, Greater}
+use Rattle.value_steps.proofs.Common.{◌≡◌, ℕ, Bool, true, false, List, refl, sym, ap, ◌∙◌, arith, Ordering, Less, Equal, Greater, Scalar, scalar_cmp}
 use Rattle.std.specs.Cmp.{IsTotalOrder}
 use Rattle.std.specs.Ordering.{nat_cmp, int_cmp, ordering_reverse}
 use Rattle.std.proofs.lemmas.Cmp.{int_cmp_total, nat_list_cmp_total}
-use Rattle.epl_values.specs.Order.{Scalar, Number, Truth, Letters, Other, scalar_cmp, bool_cmp}
+use Rattle.epl_values.specs.Order.{Number, Truth, Letters, Other, bool_cmp}
 
 -- of two total orders' facts, the third
 total_turned : {K : Type 0} (R : K → K → Ordering) → IsTotalOrder R → (a b : K) → R a b ≡ Greater → R b a ≡ Less

@@ -1,12 +1,8 @@
 -- A value in order that is emptied is in order.
-use Rattle.std.proofs.Common.{◌≡◌, List, [], ◌∷◌, map, refl, sym, ap, ◌∙◌, subst}
-use Rattle.epl_values.specs.declared.value.Value.{Value, Value-F, out-Value, roll-Value, out-roll-Value, map-Value, ind-Value}
+use Rattle.value_steps.proofs.Common.{◌≡◌, List, [], ◌∷◌, map, refl, sym, ap, ◌∙◌, subst, Value, Value-F, out-Value, roll-Value, map-Value, Pair-F, Pair, out-Pair, roll-Pair, map-Pair, emptied, emptied_step, emptied_entry, AreOrderly, IsOrderlyPair, AreOrderlyPairs, KeysInOrder}
+use Rattle.epl_values.specs.declared.value.Value.{out-roll-Value, ind-Value}
 use Rattle.epl_values.specs.declared.value.Value.TheOpen as layer
-use Rattle.epl_values.specs.declared.value.Value.TheOpen.{Pair-F}
-use Rattle.epl_values.specs.declared.value.Pair.{Pair, out-Pair, roll-Pair, map-Pair}
-use Rattle.body_meaning.specs.Effects.{emptied, emptied_step}
-use Rattle.value_steps.specs.Emptied.{emptied_entry}
-use Rattle.value_steps.specs.Orderly.{IsOrderly, AreOrderly, IsOrderlyPair, AreOrderlyPairs, KeysInOrder}
+use Rattle.value_steps.specs.Orderly.{IsOrderly}
 use Rattle.value_steps.proofs.Called.{context_orderly, dictionary_orderly, event_orderly, integer_orderly, listener_orderly, none_orderly, sequence_orderly, text_orderly, truth_orderly}
 use Rattle.value_steps.proofs.Emptying.{ascend_emptied, entry_is, rolled}
 use Rattle.value_steps.proofs.Parted.{PartsInOrder, keys_orderly, parts_orderly}

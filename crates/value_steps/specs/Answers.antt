@@ -1,6 +1,5 @@
 -- Answers that may also be want of memory.
-use Rattle.std.specs.Prelude.{◌≡◌, Result, Ok, Err}
-use Rattle.action_host.specs.declared.host.Fault.{Fault}
+use Rattle.value_steps.specs.Common.{◌≡◌, Result, Ok, Err, Fault}
 use Rattle.value_steps.specs.declared.trouble.Trouble.{Trouble}
 use Rattle.value_steps.specs.declared.trouble.Trouble.TheVariants as trouble
 

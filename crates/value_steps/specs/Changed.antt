@@ -1,12 +1,9 @@
 -- What a change in place leaves.
-use Rattle.std.specs.Prelude.{◌≡◌, ℕ, ℤ, List, Option, Some, None, Result, Ok, Err, Bool, if◌then◌else◌, is_some, nat_lt, length, remove, slice_get, slice_set}
-use Rattle.epl_values.specs.declared.value.Value.{Value}
-use Rattle.epl_values.specs.declared.value.Pair.{Pair}
-use Rattle.action_host.specs.declared.host.Fault.{Fault}
+use Rattle.value_steps.specs.Common.{◌≡◌, ℕ, List, Result, Ok, Err, Bool, if◌then◌else◌, Value, Pair, Fault, Move, then_try}
+use Rattle.std.specs.Prelude.{ℤ, Option, Some, None, is_some, nat_lt, length, remove, slice_get, slice_set}
 use Rattle.action_host.specs.declared.host.Fault.TheVariants as fault
-use Rattle.body_meaning.specs.declared.run.Move.{Move}
 use Rattle.body_meaning.specs.Methods.{changed_by}
-use Rattle.body_meaning.specs.Paths.{altered, at_key, or_fault, put, then_try, with_entry, without_entry}
+use Rattle.body_meaning.specs.Paths.{altered, at_key, or_fault, put, with_entry, without_entry}
 use Rattle.value_steps.specs.declared.changes.Change.{Change}
 use Rattle.value_steps.specs.declared.changes.Change.TheVariants as change
 use Rattle.value_steps.specs.declared.trouble.Trouble.{Trouble}

@@ -1,6 +1,6 @@
 -- An entry of which both parts are emptied of listeners.
-use Rattle.epl_values.specs.declared.value.Value.{Value}
-use Rattle.epl_values.specs.declared.value.Pair.{Pair, fold-Pair}
+use Rattle.value_steps.specs.Common.{Value, Pair}
+use Rattle.epl_values.specs.declared.value.Pair.{fold-Pair}
 use Rattle.body_meaning.specs.Effects.{emptied_pair, emptied_step}
 
 -- each listener in an entry becomes the empty one

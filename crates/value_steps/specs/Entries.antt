@@ -1,7 +1,7 @@
 -- Where the key of an entry stands, or would stand, in a dictionary.
-use Rattle.std.specs.Prelude.{ℕ, zero, suc, Bool, List, [], ◌∷◌, Result, Ok, Err, if◌then◌else◌}
-use Rattle.epl_values.specs.declared.value.Value.{Value}
-use Rattle.epl_values.specs.declared.value.Pair.{Pair, out-Pair}
+use Rattle.value_steps.specs.Common.{ℕ, Bool, List, [], ◌∷◌, Result, Ok, Err, if◌then◌else◌, Value, Pair}
+use Rattle.std.specs.Prelude.{zero, suc}
+use Rattle.epl_values.specs.declared.value.Pair.{out-Pair}
 use Rattle.epl_values.specs.Order.{order_of}
 use Rattle.body_meaning.specs.Values.{is_less}
 use Rattle.body_meaning.specs.Paths.{by_order}

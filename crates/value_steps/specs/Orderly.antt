@@ -1,11 +1,10 @@
 -- Values whose dictionaries are in order.
-use Rattle.std.specs.Prelude.{List}
+use Rattle.value_steps.specs.Common.{List, Value, Pair, Move}
 use Rattle.std.specs.List.{AllByRecursion}
-use Rattle.epl_values.specs.declared.value.Value.{Value, Value-F, every-Value}
+use Rattle.epl_values.specs.declared.value.Value.{Value-F, every-Value}
 use Rattle.epl_values.specs.declared.value.Value.TheOpen as layer
-use Rattle.epl_values.specs.declared.value.Pair.{Pair, Pair-F}
+use Rattle.epl_values.specs.declared.value.Pair.{Pair-F}
 use Rattle.epl_values.specs.Order.{KeysAscend}
-use Rattle.body_meaning.specs.declared.run.Move.{Move}
 use Rattle.body_meaning.specs.declared.run.Move.TheVariants as move
 
 -- a dictionary's keys ascend; of others nothing is asked

@@ -1,25 +1,15 @@
 -- One call behind another, choices and effects.
-use Rattle.std.proofs.Common.{◌≡◌, ℕ, ◌+◌, Bool, true, false, List, [], ◌∷◌, ◌++◌, Result, Ok, Err, refl, sym, ap, subst, ◌∙◌, arith, append_assoc}
+use Rattle.walk_rules.proofs.Common.{◌≡◌, ℕ, ◌+◌, Bool, true, false, List, [], ◌∷◌, ◌++◌, Result, Ok, Err, refl, sym, ap, subst, ◌∙◌, arith, append_assoc, Contains, Value, Fault, Effect, Scene, Told, Frame, Halt, Failed, State, Did, M, then_do, choose, Stop, Halted, Memory, state_of, outcome_of, did_of, standing, Ran, Passes, Does, Walks}
 use Rattle.std.specs.Prelude.{if◌then◌else◌, nat_lt, ◌==◌}
-use Rattle.std.specs.List.{Contains}
-use Rattle.epl_values.specs.declared.value.Value.{Value}
 use Rattle.epl_values.specs.declared.value.Value.TheVariants as value
-use Rattle.action_host.specs.declared.host.Fault.{Fault}
 use Rattle.action_host.specs.declared.host.Fault.TheVariants as fault
-use Rattle.action_host.specs.declared.host.Effect.{Effect}
 use Rattle.action_host.specs.declared.host.Effect.TheVariants as effect
 use Rattle.action_host.specs.declared.host.Answer.{Answer}
 use Rattle.action_host.specs.declared.host.Answer.TheVariants as answer
-use Rattle.action_host.specs.Scenes.{Scene, holds}
+use Rattle.action_host.specs.Scenes.{holds}
 use Rattle.action_host.specs.Replies.{reply, replies, making, opening}
-use Rattle.action_host.specs.Told.{Told, Takes, listed}
-use Rattle.body_meaning.specs.declared.run.Frame.{Frame}
-use Rattle.body_meaning.specs.declared.run.Halt.{Halt}
-use Rattle.body_meaning.specs.declared.run.Halt.TheVariants.{Failed}
-use Rattle.body_meaning.specs.Runs.{State, Did, and_then, M, behind, then_do, ◌>>=◌, ◌>>◌, pure, choose, two, perform, settle, replied}
-use Rattle.walk_rules.specs.declared.stop.Stop.{Stop}
-use Rattle.walk_rules.specs.declared.stop.Stop.TheVariants.{Halted, Memory}
-use Rattle.walk_rules.specs.Ran.{state_of, outcome_of, did_of, standing, Ran, Passes, Does, Walks}
+use Rattle.action_host.specs.Told.{Takes, listed}
+use Rattle.body_meaning.specs.Runs.{and_then, behind, ◌>>=◌, ◌>>◌, pure, two, perform, settle, replied}
 use Rattle.walk_rules.proofs.Frames.{standing_append, contains_behind, contains_then, did_behind}
 use Rattle.walk_rules.proofs.Running.{walks_pure}
 

@@ -1,16 +1,9 @@
 -- Calls, one level at a time, and locals of their own.
-use Rattle.std.proofs.Common.{◌≡◌, ℕ, zero, suc, ◌-◌, ◌<◌, List, Ok, Err, refl, ap, arith}
-use Rattle.std.specs.Prelude.{slice_get}
-use Rattle.epl_values.specs.declared.value.Value.{Value}
+use Rattle.walk_rules.proofs.Common.{◌≡◌, ℕ, zero, suc, ◌-◌, ◌<◌, List, Ok, Err, refl, ap, arith, slice_get, Value, Told, Flow, Frame, M, Stop, Walks}
 use Rattle.typed_program.specs.declared.program.Program.{Program}
 use Rattle.action_host.specs.declared.host.Fault.TheVariants as fault
-use Rattle.action_host.specs.Told.{Told}
-use Rattle.body_meaning.specs.declared.run.Flow.{Flow}
-use Rattle.body_meaning.specs.declared.run.Frame.{Frame}
-use Rattle.body_meaning.specs.Runs.{M, ◌>>=◌, ◌>>◌, pure, charge, given}
+use Rattle.body_meaning.specs.Runs.{◌>>=◌, ◌>>◌, pure, charge, given}
 use Rattle.body_meaning.specs.Acts.{in_locals, with_locals, returned, enter, action_run, or_none}
-use Rattle.walk_rules.specs.declared.stop.Stop.{Stop}
-use Rattle.walk_rules.specs.Ran.{Walks}
 use Rattle.walk_rules.proofs.Running.{walks_pure, walks_look, walks_change}
 use Rattle.walk_rules.proofs.Binding.{walks_bind, walks_bind_err, walks_seq}
 

@@ -1,12 +1,10 @@
 -- What each form of expression means, as an equation.
-use Rattle.std.proofs.Common.{◌≡◌, ℕ, Bool, List, [], ◌∷◌, map, refl, ap, ◌∙◌}
+use Rattle.walk_rules.proofs.Common.{◌≡◌, ℕ, Bool, List, [], ◌∷◌, map, refl, ap, ◌∙◌, EventShape, Value, TypedExpr, M, all, truth_of, Calls, Reach, Pairing, Linking, value_of, or_from, xor_from, and_from, links_from, entries_behind}
 use Rattle.std.specs.Prelude.{ℤ, not}
-use Rattle.epl_values.specs.declared.shape.EventShape.{EventShape}
-use Rattle.epl_values.specs.declared.value.Value.{Value}
 use Rattle.epl_values.specs.declared.value.Value.TheVariants as value
 use Rattle.epl_tree.specs.declared.expression.Comparison.{Comparison}
 use Rattle.typed_program.specs.declared.expression.Method.{Method}
-use Rattle.typed_program.specs.declared.expression.TypedExpr.{TypedExpr, out-TypedExpr, fold_out-TypedExpr}
+use Rattle.typed_program.specs.declared.expression.TypedExpr.{out-TypedExpr, fold_out-TypedExpr}
 use Rattle.typed_program.specs.declared.expression.TypedNode.{TypedNode, TypedNode-F, map-TypedNode, out-TypedNode, fold-TypedNode, fold_out-TypedNode}
 use Rattle.typed_program.specs.declared.expression.TypedNode.TheOpen as layer
 use Rattle.typed_program.specs.declared.expression.TypedNode.TheVariants as tree
@@ -16,10 +14,10 @@ use Rattle.typed_program.specs.declared.expression.TypedSuffix.{TypedSuffix, out
 use Rattle.typed_program.specs.declared.expression.TypedSuffixNode.{TypedSuffixNode, TypedSuffixNode-F, map-TypedSuffixNode, out-TypedSuffixNode, fold-TypedSuffixNode, fold_out-TypedSuffixNode}
 use Rattle.typed_program.specs.declared.expression.TypedSuffixNode.TheVariants as step
 use Rattle.typed_program.specs.declared.statement.Variable.TheVariants as variable
-use Rattle.body_meaning.specs.Runs.{M, ◌>>=◌, pure, given, all, two}
-use Rattle.body_meaning.specs.Values.{truth_of, negated, compared}
+use Rattle.body_meaning.specs.Runs.{◌>>=◌, pure, given, two}
+use Rattle.body_meaning.specs.Values.{negated, compared}
 use Rattle.body_meaning.specs.Effects.{make_context, current}
-use Rattle.body_meaning.specs.Expressions.{Calls, Meant, Reach, Pairing, Linking, NodeMeant, node_meant, step_meant, entry_meant, expr_meant, link_meant, suffix_meant, meaning_of, reach_of, value_of, all_values, valued, read, or_from, xor_from, and_from, links_from, entries_behind, postfix, default_by, reach_by, item_move, key_move}
+use Rattle.body_meaning.specs.Expressions.{Meant, NodeMeant, node_meant, step_meant, entry_meant, expr_meant, link_meant, suffix_meant, meaning_of, reach_of, all_values, valued, read, postfix, default_by, reach_by, item_move, key_move}
 use Rattle.walk_rules.specs.Parts.{link_of, entry_of, field_reach, method_reach}
 
 fused : {A B C : Type 0} (g : B → C) (h : A → B) (xs : List A) → map g (map h xs) ≡ map (λ x. g (h x)) xs

@@ -1,13 +1,8 @@
 -- The variables that a run passes.
-use Rattle.std.proofs.Common.{◌≡◌, List, [], ◌∷◌, ◌++◌, refl, sym, subst, ⊎_elim, arith}
-use Rattle.std.specs.List.{Contains}
+use Rattle.walk_rules.proofs.Common.{◌≡◌, List, [], ◌∷◌, ◌++◌, refl, sym, subst, ⊎_elim, arith, Contains, Frame, Did, Outcome, Went, Ended, M, then_do, Halt, State, standing, did_of, outcome_of}
 use Rattle.std.proofs.lemmas.List.Elements.{Contains-append_left, Contains-append_right, Contains-append_cases, Contains-push_cases}
-use Rattle.body_meaning.specs.declared.run.Frame.{Frame}
-use Rattle.body_meaning.specs.Runs.{Did, Outcome, Went, Ended, M, and_then, behind, then_do}
-use Rattle.body_meaning.specs.declared.run.Halt.{Halt}
+use Rattle.body_meaning.specs.Runs.{and_then, behind}
 use Rattle.std.specs.Prelude.{Result, Ok, Err}
-use Rattle.body_meaning.specs.Runs.{State}
-use Rattle.walk_rules.specs.Ran.{standing, did_of, outcome_of}
 
 pub standing_append : (frame : Frame) (xs ys : List Frame) → standing frame (xs ++ ys) ≡ standing (standing frame xs) ys
 standing_append frame [] ys = refl

@@ -1,14 +1,7 @@
 -- What holds of the variables that a run passes holds where a call leaves them.
-use Rattle.std.proofs.Common.{ℕ, List, [], ◌∷◌, ◌++◌, Result, Ok, Err, sym, ap, subst, ◌∙◌}
+use Rattle.walk_rules.proofs.Common.{ℕ, List, [], ◌∷◌, ◌++◌, Result, Ok, Err, sym, ap, subst, ◌∙◌, Told, Frame, Halt, Did, M, Stop, Halted, Memory, state_of, did_of, standing, Ran, Passes, Does, Walks}
 use Rattle.std.specs.List.{All}
 use Rattle.std.proofs.lemmas.List.Elements.{All-cons, All-contains}
-use Rattle.action_host.specs.Told.{Told}
-use Rattle.body_meaning.specs.declared.run.Frame.{Frame}
-use Rattle.body_meaning.specs.declared.run.Halt.{Halt}
-use Rattle.body_meaning.specs.Runs.{Did, M}
-use Rattle.walk_rules.specs.declared.stop.Stop.{Stop}
-use Rattle.walk_rules.specs.declared.stop.Stop.TheVariants.{Halted, Memory}
-use Rattle.walk_rules.specs.Ran.{state_of, did_of, standing, Ran, Passes, Does, Walks}
 use Rattle.walk_rules.proofs.Frames.{contains_standing, did_outcome}
 
 module _ {A : Type 0} (P : Frame → Type 0) (m : M A) (old : Told) (frame : Frame) (here : P frame) (passed : (draws : List ℕ) → All P (did_of (m (state_of old draws frame))).frames) where

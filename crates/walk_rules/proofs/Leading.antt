@@ -1,21 +1,10 @@
 -- A run that is a part of the way, and loops over items.
-use Rattle.std.proofs.Common.{◌≡◌, ℕ, ◌+◌, ◌≤◌, ◌<◌, suc, add-one, true, false, List, [], ◌∷◌, ◌++◌, length, map, drop, get_or, Option, Some, Result, Ok, Err, refl, sym, ap, subst, ◌∙◌, arith, append_assoc}
+use Rattle.walk_rules.proofs.Common.{◌≡◌, ℕ, ◌+◌, ◌≤◌, ◌<◌, suc, true, false, List, [], ◌∷◌, ◌++◌, length, map, drop, get_or, Option, Some, Result, Ok, Err, refl, sym, ap, subst, ◌∙◌, arith, append_assoc, drop_all, Contains, slice_get, Effect, Told, Flow, Next, Frame, Halt, State, Did, nothing, Outcome, Went, Ended, M, then_do, choose, row, unless, Stop, Halted, Memory, state_of, did_of, standing, Ran, Passes, Does, Walks, Leads}
+use Rattle.std.proofs.Common.{add-one}
 use Rattle.std.proofs.Math.Seq.{drop-cons}
-use Rattle.std.proofs.lemmas.List.{drop_all}
 use Rattle.std.proofs.lemmas.Option.{slice_get-get_or}
-use Rattle.std.specs.List.{Contains}
-use Rattle.std.specs.Prelude.{slice_get}
-use Rattle.action_host.specs.declared.host.Effect.{Effect}
-use Rattle.action_host.specs.Told.{Told}
-use Rattle.body_meaning.specs.declared.run.Flow.{Flow}
-use Rattle.body_meaning.specs.declared.run.Flow.TheVariants.{Next}
-use Rattle.body_meaning.specs.declared.run.Frame.{Frame}
-use Rattle.body_meaning.specs.declared.run.Halt.{Halt}
-use Rattle.body_meaning.specs.Runs.{State, Did, nothing, and_then, Outcome, Went, Ended, M, behind, then_do, ◌>>=◌, ◌>>◌, pure, choose, all_behind}
-use Rattle.body_meaning.specs.Statements.{row, follow, is_next, unless}
-use Rattle.walk_rules.specs.declared.stop.Stop.{Stop}
-use Rattle.walk_rules.specs.declared.stop.Stop.TheVariants.{Halted, Memory}
-use Rattle.walk_rules.specs.Ran.{state_of, did_of, standing, Ran, Passes, Does, Walks, Leads}
+use Rattle.body_meaning.specs.Runs.{and_then, behind, ◌>>=◌, ◌>>◌, pure, all_behind}
+use Rattle.body_meaning.specs.Statements.{follow, is_next}
 use Rattle.walk_rules.proofs.Frames.{standing_append, contains_behind, did_behind}
 use Rattle.walk_rules.proofs.Running.{append_nil, walks_pure}
 use Rattle.walk_rules.proofs.Binding.{behind_outcome, walks_bind_err, walks_false}

@@ -1,3 +1,4 @@
+mod Common
 pub mod Frames
 pub mod Running
 pub mod Binding

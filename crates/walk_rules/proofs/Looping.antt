@@ -1,19 +1,11 @@
 -- Loops that test, and loops over values.
-use Rattle.std.proofs.Common.{◌≡◌, ℕ, ◌+◌, ◌≤◌, ◌<◌, zero, suc, true, false, List, [], length, drop, get_or, Some, None, Ok, Err, refl, sym, ap, ◌∙◌, arith}
+use Rattle.walk_rules.proofs.Common.{◌≡◌, ℕ, ◌+◌, ◌≤◌, ◌<◌, zero, suc, true, false, List, [], length, drop, get_or, Some, None, Ok, Err, refl, sym, ap, ◌∙◌, arith, drop_all, Value, Told, Flow, Next, Frame, nothing, M, choose, set_local, truth_of, unless, Stop, state_of, Walks, Leads}
 use Rattle.std.proofs.Math.ListN.{length-set}
-use Rattle.std.proofs.lemmas.List.{drop_all, drop-set-lt}
+use Rattle.std.proofs.lemmas.List.{drop-set-lt}
 use Rattle.std.specs.Prelude.{slice_set}
-use Rattle.epl_values.specs.declared.value.Value.{Value}
-use Rattle.action_host.specs.Told.{Told}
-use Rattle.body_meaning.specs.declared.run.Flow.{Flow}
-use Rattle.body_meaning.specs.declared.run.Flow.TheVariants.{Next}
-use Rattle.body_meaning.specs.declared.run.Frame.{Frame}
-use Rattle.body_meaning.specs.Runs.{nothing, M, ◌>>=◌, ◌>>◌, pure, choose, charge, change}
-use Rattle.body_meaning.specs.Paths.{set_local}
-use Rattle.body_meaning.specs.Values.{truth_of}
-use Rattle.body_meaning.specs.Statements.{again, turn_end, unless, turns, while_of, each}
-use Rattle.walk_rules.specs.declared.stop.Stop.{Stop}
-use Rattle.walk_rules.specs.Ran.{state_of, Walks, Leads, Turning}
+use Rattle.body_meaning.specs.Runs.{◌>>=◌, ◌>>◌, pure, charge, change}
+use Rattle.body_meaning.specs.Statements.{again, turn_end, turns, while_of, each}
+use Rattle.walk_rules.specs.Ran.{Turning}
 use Rattle.walk_rules.proofs.Running.{append_nil, walks_pure}
 use Rattle.walk_rules.proofs.Binding.{walks_bind, walks_bind_err, walks_seq, walks_seq_err, walks_true, walks_false}
 use Rattle.walk_rules.proofs.Leading.{behind_nothing, leads_bind, leads_same, leads_walks, next_item, walks_some}

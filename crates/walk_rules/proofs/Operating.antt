@@ -1,16 +1,10 @@
 -- Loops over operands, links, entries and steps.
-use Rattle.std.proofs.Common.{◌≡◌, ℕ, ◌+◌, ◌≤◌, ◌<◌, true, false, List, [], ◌∷◌, length, map, drop, get_or, Ok, Err, refl, sym, ap, ◌∙◌}
-use Rattle.epl_values.specs.declared.value.Value.{Value}
+use Rattle.walk_rules.proofs.Common.{◌≡◌, ℕ, ◌+◌, ◌≤◌, ◌<◌, true, false, List, [], ◌∷◌, length, map, drop, get_or, Ok, Err, refl, sym, ap, ◌∙◌, Value, Pair, Told, Frame, M, choose, truth_of, Reach, Pairing, Linking, or_from, and_from, xor_from, links_from, entries_behind, Stop, Walks, Leads}
 use Rattle.epl_values.specs.declared.value.Value.TheVariants as value
-use Rattle.epl_values.specs.declared.value.Pair.{Pair}
-use Rattle.action_host.specs.Told.{Told}
-use Rattle.body_meaning.specs.declared.run.Frame.{Frame}
-use Rattle.body_meaning.specs.Runs.{M, ◌>>=◌, pure, choose}
-use Rattle.body_meaning.specs.Values.{truth_of, differ}
+use Rattle.body_meaning.specs.Runs.{◌>>=◌, pure}
+use Rattle.body_meaning.specs.Values.{differ}
 use Rattle.body_meaning.specs.Paths.{with_entry}
-use Rattle.body_meaning.specs.Expressions.{Reach, Pairing, Linking, or_from, and_from, xor_from, links_from, operate, entries_behind, reach_from}
-use Rattle.walk_rules.specs.declared.stop.Stop.{Stop}
-use Rattle.walk_rules.specs.Ran.{Walks, Leads}
+use Rattle.body_meaning.specs.Expressions.{operate, reach_from}
 use Rattle.walk_rules.proofs.Running.{walks_pure}
 use Rattle.walk_rules.proofs.Leading.{leads_bind, leads_same, leads_stop, leads_walks, next_mapped, none_mapped}
 

@@ -1,19 +1,12 @@
 -- What single steps mean, and that a call does them.
-use Rattle.std.proofs.Common.{◌≡◌, ℕ, Bool, true, false, List, [], ◌∷◌, ◌++◌, ◌^◌, ◌-◌, ◌+◌, min, Result, Ok, Err, refl, sym, ap, subst, ◌∙◌, ⊎_elim, arith}
+use Rattle.walk_rules.proofs.Common.{◌≡◌, ℕ, Bool, true, false, List, [], ◌∷◌, ◌++◌, ◌-◌, ◌+◌, Result, Ok, Err, refl, sym, ap, subst, ◌∙◌, ⊎_elim, arith, Contains, Fault, Scene, Told, Frame, Halt, Failed, State, nothing, Went, Ended, M, Stop, Halted, Memory, state_of, outcome_of, did_of, Ran, Passes, Does, Walks}
+use Rattle.std.proofs.Common.{◌^◌, min}
 use Rattle.std.proofs.lemmas.Bool.{cases_lt, leb-true, lt-leb}
 use Rattle.std.proofs.Math.Nat.{min-eq_left, min-eq_right}
 use Rattle.std.specs.Prelude.{nat_le, IsErrAnd}
-use Rattle.std.specs.List.{Contains}
-use Rattle.action_host.specs.declared.host.Fault.{Fault}
-use Rattle.action_host.specs.Scenes.{Scene}
-use Rattle.action_host.specs.Told.{Told, Charges, charged}
-use Rattle.body_meaning.specs.declared.run.Frame.{Frame}
-use Rattle.body_meaning.specs.declared.run.Halt.{Halt}
-use Rattle.body_meaning.specs.declared.run.Halt.TheVariants.{Failed, Spent}
-use Rattle.body_meaning.specs.Runs.{State, nothing, Went, Ended, M, pure, halt, given, looked, look, by_scene, change, changed, charge, charge_if}
-use Rattle.walk_rules.specs.declared.stop.Stop.{Stop}
-use Rattle.walk_rules.specs.declared.stop.Stop.TheVariants.{Halted, Memory}
-use Rattle.walk_rules.specs.Ran.{state_of, outcome_of, did_of, Ran, Passes, Does, Walks}
+use Rattle.action_host.specs.Told.{Charges, charged}
+use Rattle.body_meaning.specs.declared.run.Halt.TheVariants.{Spent}
+use Rattle.body_meaning.specs.Runs.{pure, halt, given, looked, look, by_scene, change, changed, charge, charge_if}
 use Rattle.walk_rules.proofs.Frames.{contains_first}
 
 pub append_nil : {A : Type 0} (xs : List A) → xs ≡ xs ++ []

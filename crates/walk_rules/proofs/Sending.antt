@@ -1,10 +1,7 @@
 -- What `send` and `context` mean, by their arguments.
-use Rattle.std.proofs.Common.{◌≡◌, ℕ, List, [], ◌∷◌, length, Some, Err, refl, sym, ap, ◌∙◌, arith}
-use Rattle.std.specs.Prelude.{slice_get}
-use Rattle.epl_values.specs.declared.value.Value.{Value, Value-F, out-Value, roll-Value, roll-out-Value}
+use Rattle.walk_rules.proofs.Common.{◌≡◌, ℕ, List, [], ◌∷◌, length, Some, Err, refl, sym, ap, ◌∙◌, arith, slice_get, Value, Value-F, out-Value, roll-Value, roll-out-Value, Pair}
 use Rattle.epl_values.specs.declared.value.Value.TheOpen as layer
 use Rattle.epl_values.specs.declared.value.Value.TheVariants as value
-use Rattle.epl_values.specs.declared.value.Pair.{Pair}
 use Rattle.action_host.specs.declared.host.Fault.TheVariants as fault
 use Rattle.body_meaning.specs.Runs.{pure, given}
 use Rattle.body_meaning.specs.Effects.{send, send_in, send_context, send_channel, make, make_context}

@@ -1,23 +1,18 @@
 -- What each form of statement means, as an equation.
-use Rattle.std.proofs.Common.{◌≡◌, ℕ, List, map, Option, None, Some, sym, ap, ◌∙◌}
+use Rattle.walk_rules.proofs.Common.{◌≡◌, ℕ, List, map, Option, None, Some, sym, ap, ◌∙◌, EventShape, TypedExpr, TypedPlace, Flow, M, choose, truth_of, Calls, value_of, row, done, set}
 use Rattle.std.specs.Prelude.{option_map}
 use Rattle.epl_values.specs.declared.shape.Shape.{Shape}
-use Rattle.epl_values.specs.declared.shape.EventShape.{EventShape}
 use Rattle.epl_tree.specs.declared.statement.Level.{Level}
-use Rattle.typed_program.specs.declared.expression.TypedExpr.{TypedExpr}
 use Rattle.typed_program.specs.declared.program.Site.{Site}
 use Rattle.typed_program.specs.declared.statement.Stmt.{Stmt, Stmt-F, roll-Stmt, map-Stmt, fold-roll-Stmt}
 use Rattle.typed_program.specs.declared.statement.Stmt.TheVariants as tree
-use Rattle.typed_program.specs.declared.statement.TypedPlace.{TypedPlace}
 use Rattle.value_rules.specs.Defaults.{default_of}
-use Rattle.body_meaning.specs.declared.run.Flow.{Flow}
 use Rattle.body_meaning.specs.declared.run.Flow.TheVariants.{Broke, Continued}
 use Rattle.body_meaning.specs.declared.run.Halt.TheVariants.{Died}
-use Rattle.body_meaning.specs.Runs.{M, ◌>>=◌, ◌>>◌, pure, halt, charge, choose}
-use Rattle.body_meaning.specs.Values.{truth_of}
+use Rattle.body_meaning.specs.Runs.{◌>>=◌, ◌>>◌, pure, halt, charge}
 use Rattle.body_meaning.specs.Effects.{print, log, route, send, subscribe, unsubscribe}
-use Rattle.body_meaning.specs.Expressions.{Calls, meaning_of, value_of}
-use Rattle.body_meaning.specs.Statements.{stmt_of, stmt_meant, row, done, set, assign, while_of, for_of, level_number, listener_of, place_moves, returned, spawned, otherwise}
+use Rattle.body_meaning.specs.Expressions.{meaning_of}
+use Rattle.body_meaning.specs.Statements.{stmt_of, stmt_meant, assign, while_of, for_of, level_number, listener_of, place_moves, returned, spawned, otherwise}
 
 module _ (types : List EventShape) (sites : List Site) (call : Calls) where
   rolled : {s : Stmt} (d : Stmt-F Stmt) → roll-Stmt d ≡ s → stmt_of types sites call s ≡ stmt_meant types sites call (map-Stmt Stmt (M Flow) (stmt_of types sites call) d)

@@ -1,29 +1,17 @@
 -- Statements and methods, put together from their parts.
-use Rattle.std.proofs.Common.{◌≡◌, ℕ, List, Result, Ok, Err, refl, sym, ap, ◌∙◌}
-use Rattle.epl_values.specs.declared.value.Value.{Value, Value-F, out-Value, roll-Value, roll-out-Value}
+use Rattle.walk_rules.proofs.Common.{◌≡◌, ℕ, List, Result, Ok, Err, refl, sym, ap, ◌∙◌, Value, Value-F, out-Value, roll-Value, roll-out-Value, Pair, TypedPlace, Fault, Told, Flow, Next, Frame, Failed, M, all, set_local, done, set, Stop, Halted, Walks}
 use Rattle.epl_values.specs.declared.value.Value.TheOpen as layer
 use Rattle.epl_values.specs.declared.value.Value.TheVariants as value
-use Rattle.epl_values.specs.declared.value.Pair.{Pair}
-use Rattle.typed_program.specs.declared.statement.TypedPlace.{TypedPlace}
 use Rattle.value_rules.specs.Costs.{cost_of}
-use Rattle.action_host.specs.declared.host.Fault.{Fault}
 use Rattle.action_host.specs.declared.host.Fault.TheVariants as fault
-use Rattle.action_host.specs.Told.{Told}
-use Rattle.body_meaning.specs.declared.run.Flow.{Flow}
-use Rattle.body_meaning.specs.declared.run.Flow.TheVariants.{Next}
-use Rattle.body_meaning.specs.declared.run.Frame.{Frame}
-use Rattle.body_meaning.specs.declared.run.Halt.TheVariants.{Failed}
 use Rattle.body_meaning.specs.declared.run.Move.{Move}
-use Rattle.body_meaning.specs.Runs.{M, charge, given, all}
+use Rattle.body_meaning.specs.Runs.{charge, given}
 use Rattle.body_meaning.specs.Values.{items_of, bounded}
-use Rattle.body_meaning.specs.Paths.{store, alter, set_local}
+use Rattle.body_meaning.specs.Paths.{store, alter}
 use Rattle.body_meaning.specs.Methods.{changed_by, text_charged, value_charged}
 use Rattle.body_meaning.specs.Effects.{globals_then, spawn_in, spawn_to, spawn_there}
 use Rattle.body_meaning.specs.Expressions.{Place, Change, change_place}
-use Rattle.body_meaning.specs.Statements.{done, set, each, elements_of, for_of, assign}
-use Rattle.walk_rules.specs.declared.stop.Stop.{Stop}
-use Rattle.walk_rules.specs.declared.stop.Stop.TheVariants.{Halted}
-use Rattle.walk_rules.specs.Ran.{Walks}
+use Rattle.body_meaning.specs.Statements.{each, elements_of, for_of, assign}
 use Rattle.walk_rules.proofs.Running.{walks_pure, walks_look, walks_change, walks_change_err, walks_given, walks_given_err}
 use Rattle.walk_rules.proofs.Binding.{walks_bind, walks_bind_err, walks_seq, walks_seq_err}
 

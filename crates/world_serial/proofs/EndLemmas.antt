@@ -1,28 +1,22 @@
 -- The record at the end.
-use Rattle.std.proofs.Common.{◌≡◌, ℕ, zero, suc, ◌+◌, ◌<◌, ◌≤◌, List, [], ◌∷◌, ◌++◌, Bool, true, false, cond, not, ◌==◌, refl, sym, ◌∙◌, ap, subst, arith, map, length, drop, append_assoc}
+use Rattle.world_serial.proofs.Common.{◌≡◌, ℕ, zero, suc, ◌+◌, ◌<◌, ◌≤◌, List, [], ◌∷◌, ◌++◌, Bool, true, false, cond, refl, sym, ◌∙◌, ap, subst, arith, map, length, Entry, Cell, queue_at, Program, Context, Cargo, Item, contexts_of, reader_of, World, moment_of, IsBooted, FinishesOn}
+use Rattle.std.proofs.Common.{not, ◌==◌, drop, append_assoc}
 use Rattle.std.proofs.lemmas.Bool.{eqb-true}
-use Rattle.actor_theory.specs.declared.entry.Entry.{Entry}
 use Rattle.actor_theory.specs.Language.{by}
 use Rattle.actor_theory.specs.Order.{ordered}
 use Rattle.actor_theory.specs.Kept as kept
-use Rattle.actor_theory.specs.Machine.{Cell, queue_at, slots_kept, kept_of}
+use Rattle.actor_theory.specs.Machine.{slots_kept, kept_of}
 use Rattle.actor_theory.proofs.Looping.{machine-scheduled}
 use Rattle.actor_theory.proofs.Keeping.{scheduled-kept}
-use Rattle.typed_program.specs.declared.program.Program.{Program}
-use Rattle.context_meaning.specs.declared.context.Context.{Context}
-use Rattle.context_meaning.specs.declared.cargo.Cargo.{Cargo}
-use Rattle.naive_meaning.specs.declared.entry.Item.{Item}
 use Rattle.context_meaning.specs.declared.cargo.Line.{Line}
 use Rattle.naive_meaning.specs.declared.record.ContextRecord.{ContextRecord}
 use Rattle.naive_meaning.specs.declared.record.ReaderRecord.{ReaderRecord}
 use Rattle.naive_meaning.specs.declared.record.Record.{Record}
 use Rattle.naive_meaning.specs.declared.record.Settings.{Settings}
-use Rattle.naive_meaning.specs.Actors.{contexts_of, reader_of}
 use Rattle.naive_meaning.specs.Records as records
 use Rattle.context_core.specs.Cells.{record_of}
-use Rattle.world_serial.specs.declared.world.World.{World}
 use Rattle.world_serial.specs.Queued.{but, first_queue, records_of}
-use Rattle.world_serial.specs.Serial.{moment_of, IsBooted, FinishesOn, record_of_world}
+use Rattle.world_serial.specs.Serial.{record_of_world}
 
 -- a sender's entries aren't among those of another
 pub by-but : (s t : ℕ) (q : List (Entry Cargo)) → (s ≡ t → ⊥) → by s (but t q) ≡ by s q

@@ -1,27 +1,17 @@
 -- The parts fit, from the start on and behind each turn.
-use Rattle.std.proofs.Common.{◌≡◌, ℕ, zero, suc, ◌+◌, ◌-◌, ◌^◌, ◌<◌, ◌≤◌, List, [], ◌∷◌, ◌++◌, Some, None, All, refl, sym, ◌∙◌, ap, subst, arith, map, length, get_or, slice_set}
+use Rattle.world_serial.proofs.Common.{◌≡◌, ℕ, zero, suc, ◌+◌, ◌<◌, ◌≤◌, List, [], ◌∷◌, ◌++◌, Some, None, refl, sym, ◌∙◌, ap, subst, arith, map, length, get_or, slice_set, Value, Entry, Sent, number_after, stamped, Cell, ReaderCell, cell_after, empty_queues, fresh_cells, queue_at, Program, Cargo, Context, Item, Event, contexts_of, loads_below, ItemsFit, after_first, first_entry, item_entry, World, IsFitting, Rests, first_of, rest_of}
+use Rattle.std.proofs.Common.{◌-◌, ◌^◌, All}
 use Rattle.std.proofs.lemmas.Option.{slice_get-get_or}
 use Rattle.std.proofs.lemmas.List.Elements.{All-nil, All-cons, All-head, All-tail, All-get_or, All-set, All-push, All-map}
-use Rattle.epl_values.specs.declared.value.Value.{Value, out-Value}
-use Rattle.actor_theory.specs.declared.entry.Entry.{Entry}
-use Rattle.actor_theory.specs.Language.{Sent, number_after, stamped}
-use Rattle.actor_theory.specs.Machine.{Cell, ReaderCell, cell_after, empty_queues, fresh_cells, queue_at, queue_in}
-use Rattle.typed_program.specs.declared.program.Program.{Program}
+use Rattle.epl_values.specs.declared.value.Value.{out-Value}
+use Rattle.actor_theory.specs.Machine.{queue_in}
 use Rattle.value_shapes.specs.Fits.{IsEvent}
-use Rattle.context_meaning.specs.declared.cargo.Cargo.{Cargo}
 use Rattle.context_meaning.specs.declared.cargo.Cargo.TheVariants as cargo
-use Rattle.context_meaning.specs.declared.context.Context.{Context}
 use Rattle.context_meaning.specs.declared.context.Listener.{Listener}
 use Rattle.context_meaning.specs.Contexts.{fresh}
 use Rattle.context_meaning.specs.Fits.{CargoFits, ContextFits, InstanceFits, ListenerFits}
-use Rattle.naive_meaning.specs.declared.entry.Item.{Item}
-use Rattle.naive_meaning.specs.declared.entry.Item.TheVariants.{Event}
-use Rattle.naive_meaning.specs.Actors.{contexts_of, loads_below}
-use Rattle.naive_meaning.specs.Fits.{EntriesFit, EntryFits, ItemFits, ItemsFit}
-use Rattle.source_actor.specs.Steps.{after_first, first_entry, item_entry}
-use Rattle.world_serial.specs.declared.world.World.{World}
-use Rattle.world_serial.specs.Fitting.{CellFits, Fitting, IsFitting, Rests}
-use Rattle.world_serial.specs.Queued.{first_of, rest_of}
+use Rattle.naive_meaning.specs.Fits.{EntriesFit, EntryFits, ItemFits}
+use Rattle.world_serial.specs.Fitting.{CellFits, Fitting}
 use Rattle.world_serial.proofs.Resting.{handle_rests}
 use Rattle.world_serial.proofs.TurnLemmas.{Standing, some-first, some-item, waiting-same}
 

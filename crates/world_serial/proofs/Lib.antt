@@ -1,3 +1,4 @@
+mod Common
 pub mod Sends
 pub mod TurnLemmas
 pub mod RoundLemmas

@@ -1,14 +1,9 @@
 -- Handlings leave no more fuel, and nothing that is routed.
-use Rattle.std.proofs.Common.{◌≡◌, ℕ, zero, suc, ◌+◌, ◌<◌, ◌≤◌, List, [], ◌∷◌, length, nat_lt, refl, ap, arith}
+use Rattle.world_serial.proofs.Common.{◌≡◌, ℕ, zero, suc, ◌+◌, ◌<◌, ◌≤◌, List, [], ◌∷◌, length, nat_lt, refl, ap, arith, Value, Program, Cargo, Context, Rests}
 use Rattle.std.proofs.lemmas.Bool.{cond_both}
-use Rattle.epl_values.specs.declared.value.Value.{Value}
-use Rattle.typed_program.specs.declared.program.Program.{Program}
-use Rattle.context_meaning.specs.declared.cargo.Cargo.{Cargo}
-use Rattle.context_meaning.specs.declared.context.Context.{Context}
 use Rattle.context_meaning.specs.Contexts.{spend, unless_spent}
 use Rattle.context_meaning.specs.Turns.{drained, event_handled, first_handled, front_handled, handle, handled, handled_whole, last_number, rowed}
 use Rattle.context_meaning.proofs.Falling.{Falls, event_falls, handled_falls}
-use Rattle.world_serial.specs.Fitting.{Rests}
 
 -- nothing is routed, and there is at most this fuel
 record RestsAt (most : ℕ) (c : Context) : Type 0 where

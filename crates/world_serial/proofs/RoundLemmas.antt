@@ -1,6 +1,6 @@
 -- Rounds of the parts.
-use Rattle.std.proofs.Common.{◌≡◌, ℕ, suc, ◌+◌, ◌≤◌, List, [], ◌∷◌, Bool, true, false, cond, nat_lt, ◌||◌, ◌⊎◌, sym, ◌∙◌, ap, subst, arith, filter}
-use Rattle.actor_theory.specs.Language.{Sent}
+use Rattle.world_serial.proofs.Common.{◌≡◌, ℕ, suc, ◌+◌, ◌≤◌, List, [], ◌∷◌, Bool, true, false, cond, nat_lt, ◌⊎◌, sym, ◌∙◌, ap, subst, arith, Sent, Program, Cargo, Item, Event, contexts_of, reader_of, item_sends, World, IsFitting, actors_of, moment_of, FinishesOn}
+use Rattle.std.proofs.Common.{◌||◌, filter}
 use Rattle.actor_theory.specs.World.{World as Moment, IsQuiet}
 use Rattle.actor_theory.specs.Potential.{IsMeasure, total, entry_cost}
 use Rattle.actor_theory.specs.Measure.{IsJoinedLog}
@@ -8,15 +8,8 @@ use Rattle.actor_theory.specs.Rounding.{Rounding, RoundsSoFar}
 use Rattle.actor_theory.proofs.Measuring.{joined-measure}
 use Rattle.actor_theory.proofs.Rounding.{rounding-all, rounds-more, rounds-all}
 use Rattle.actor_theory.proofs.Looping.{machine-rounding_more}
-use Rattle.typed_program.specs.declared.program.Program.{Program}
-use Rattle.context_meaning.specs.declared.cargo.Cargo.{Cargo}
 use Rattle.context_meaning.specs.declared.cargo.Cargo.TheVariants as cargo
-use Rattle.naive_meaning.specs.declared.entry.Item.{Item}
-use Rattle.naive_meaning.specs.declared.entry.Item.TheVariants.{Event}
-use Rattle.naive_meaning.specs.Actors.{contexts_of, reader_of, item_sends}
-use Rattle.world_serial.specs.declared.world.World.{World}
-use Rattle.world_serial.specs.Fitting.{IsFitting}
-use Rattle.world_serial.specs.Serial.{actors_of, moment_of, weight, cost, TurnsOn, RoundsOn, FinishesOn}
+use Rattle.world_serial.specs.Serial.{weight, cost, TurnsOn, RoundsOn}
 
 -- an item sends one entry at most
 one-at-most : (contexts number : ℕ) (i : Item) → total (entry_cost {C = Cargo} (λ d e. 1) contexts number) (filter (λ x. nat_lt x.target contexts) (item_sends i)) ≤ 1

@@ -1,12 +1,9 @@
 -- Sends to the main context, and queues that stay.
-use Rattle.std.proofs.Common.{◌≡◌, ℕ, zero, suc, ◌<◌, List, [], ◌∷◌, ◌++◌, refl, sym, ◌∙◌, ap, arith, map, length, slice_set}
+use Rattle.world_serial.proofs.Common.{◌≡◌, ℕ, zero, suc, ◌<◌, List, [], ◌∷◌, ◌++◌, refl, sym, ◌∙◌, ap, arith, map, length, slice_set, AllByRecursion, Entry, Sent, stamped, slots_only, queue_at, delivered}
 use Rattle.std.proofs.lemmas.List.{append-nil}
 use Rattle.std.proofs.lemmas.Bool.{ne_eqb, eq-eqb, lt-ltb}
-use Rattle.std.specs.List.{AllByRecursion}
-use Rattle.actor_theory.specs.declared.entry.Entry.{Entry}
-use Rattle.actor_theory.specs.Language.{Sent, stamped, mail}
-use Rattle.actor_theory.specs.Joined.{slots_only}
-use Rattle.actor_theory.specs.Machine.{queue_at, arrived, delivered}
+use Rattle.actor_theory.specs.Language.{mail}
+use Rattle.actor_theory.specs.Machine.{arrived}
 
 -- all go to the main context
 abbrev pub ToMain : {C : Type 0} → List (Sent C) → Type 0

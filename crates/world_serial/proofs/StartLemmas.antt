@@ -1,21 +1,11 @@
 -- The parts at the start, and after boot.
-use Rattle.std.proofs.Common.{◌≡◌, ℕ, zero, suc, ◌+◌, ◌<◌, List, [], ◌∷◌, ◌++◌, false, refl, sym, ◌∙◌, ap, subst, ◌⊎◌, arith, map, length, get_or, slice_set}
-use Rattle.std.specs.List.{AllByRecursion}
-use Rattle.actor_theory.specs.declared.entry.Entry.{Entry}
-use Rattle.actor_theory.specs.Language.{Sent, stamped}
+use Rattle.world_serial.proofs.Common.{◌≡◌, ℕ, zero, suc, ◌+◌, ◌<◌, List, [], ◌∷◌, ◌++◌, false, refl, sym, ◌∙◌, ap, subst, ◌⊎◌, arith, map, length, get_or, slice_set, AllByRecursion, Entry, Sent, stamped, Cell, ReaderCell, world_of, Stand, empty_queues, fresh_cells, Program, Context, Cargo, Item, ItemsFit, contexts_of, reader_of, loads_below, World, actors_of, moment_of, FinishesOn, IsBooted}
 use Rattle.actor_theory.specs.World.{World as Moment, IsFinished}
-use Rattle.actor_theory.specs.Machine.{Cell, ReaderCell, world_of, Stand, empty_queues, fresh_cells, fresh_reader, loaded_queues, without_items}
+use Rattle.actor_theory.specs.Machine.{fresh_reader, loaded_queues, without_items}
 use Rattle.actor_theory.proofs.Beginning.{fresh-stand}
 use Rattle.actor_theory.proofs.Looping.{machine-boot}
-use Rattle.typed_program.specs.declared.program.Program.{Program}
-use Rattle.context_meaning.specs.declared.context.Context.{Context}
-use Rattle.context_meaning.specs.declared.cargo.Cargo.{Cargo}
 use Rattle.context_meaning.specs.declared.cargo.Cargo.TheVariants as cargo
-use Rattle.naive_meaning.specs.declared.entry.Item.{Item}
-use Rattle.naive_meaning.specs.Fits.{ItemsFit}
-use Rattle.naive_meaning.specs.Actors.{contexts_of, reader_of, loads_below}
-use Rattle.world_serial.specs.declared.world.World.{World}
-use Rattle.world_serial.specs.Serial.{IsStanding, actors_of, moment_of, IsFresh, FinishesOn, IsBooted}
+use Rattle.world_serial.specs.Serial.{IsStanding, IsFresh}
 use Rattle.world_serial.proofs.FittingLemmas.{given-fits}
 use Rattle.world_serial.proofs.Sends.{ToMain, delivered-main}
 

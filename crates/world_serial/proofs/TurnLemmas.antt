@@ -1,22 +1,10 @@
 -- The turns of slots and reader.
-use Rattle.std.proofs.Common.{◌≡◌, ℕ, ◌+◌, ◌<◌, List, [], ◌∷◌, ◌++◌, Bool, true, false, Some, None, refl, sym, ◌∙◌, ap, subst, arith, length, get_or, slice_set}
+use Rattle.world_serial.proofs.Common.{◌≡◌, ℕ, ◌+◌, ◌<◌, List, [], ◌∷◌, ◌++◌, Bool, true, false, Some, None, refl, sym, ◌∙◌, ap, subst, arith, length, get_or, slice_set, Entry, number_after, slots_only, Cell, ReaderCell, queue_at, world_of, Stand, cell_after, delivered, Program, Context, Cargo, Item, Event, contexts_of, reader_of, item_sends, first_entry, after_first, item_entry, first_of, rest_of, actors_of}
 use Rattle.std.proofs.lemmas.Option.{slice_get_read}
 use Rattle.std.proofs.lemmas.List.{get_or_default}
-use Rattle.actor_theory.specs.declared.entry.Entry.{Entry}
-use Rattle.actor_theory.specs.Language.{number_after}
 use Rattle.actor_theory.specs.World.{turn_of}
-use Rattle.actor_theory.specs.Joined.{slots_only}
-use Rattle.actor_theory.specs.Machine.{Cell, ReaderCell, queue_at, world_of, Stand, Stepped, cell_after, reader_after_entry, delivered}
+use Rattle.actor_theory.specs.Machine.{Stepped, reader_after_entry}
 use Rattle.actor_theory.proofs.Turning.{turned-slot, turned-slot_empty, turned-slot_spent, turned-entry, turned-item, turned-done, turned-wait}
-use Rattle.typed_program.specs.declared.program.Program.{Program}
-use Rattle.context_meaning.specs.declared.context.Context.{Context}
-use Rattle.context_meaning.specs.declared.cargo.Cargo.{Cargo}
-use Rattle.naive_meaning.specs.declared.entry.Item.{Item}
-use Rattle.naive_meaning.specs.declared.entry.Item.TheVariants.{Event}
-use Rattle.naive_meaning.specs.Actors.{contexts_of, reader_of, item_sends}
-use Rattle.source_actor.specs.Steps.{first_entry, after_first, item_entry}
-use Rattle.world_serial.specs.Queued.{first_of, rest_of}
-use Rattle.world_serial.specs.Serial.{actors_of}
 use Rattle.world_serial.proofs.Sends.{arrived-none, delivered-main, set-same}
 
 -- a program of nothing

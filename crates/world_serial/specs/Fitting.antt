@@ -1,13 +1,8 @@
 -- Parts that fit a typed program.
-use Rattle.std.specs.Prelude.{◌≡◌, ◌<◌, ◌-◌, ◌^◌, List, []}
+use Rattle.world_serial.specs.Common.{◌≡◌, List, [], Entry, Cell, Program, Cargo, Context, Item}
+use Rattle.std.specs.Prelude.{◌<◌, ◌-◌, ◌^◌}
 use Rattle.std.specs.List.{All}
-use Rattle.actor_theory.specs.declared.entry.Entry.{Entry}
-use Rattle.actor_theory.specs.Machine.{Cell}
-use Rattle.typed_program.specs.declared.program.Program.{Program}
-use Rattle.context_meaning.specs.declared.cargo.Cargo.{Cargo}
-use Rattle.context_meaning.specs.declared.context.Context.{Context}
 use Rattle.context_meaning.specs.Fits.{ContextFits}
-use Rattle.naive_meaning.specs.declared.entry.Item.{Item}
 use Rattle.naive_meaning.specs.Fits.{EntriesFit, ItemsFit}
 use Rattle.world_serial.specs.declared.world.World.{World}
 

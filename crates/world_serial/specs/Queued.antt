@@ -1,10 +1,7 @@
 -- Queues of entries.
-use Rattle.std.specs.Prelude.{ℕ, suc, List, [], ◌∷◌, not, ◌==◌, Option, Some, None, filter}
-use Rattle.actor_theory.specs.declared.entry.Entry.{Entry}
-use Rattle.actor_theory.specs.Machine.{Cell}
+use Rattle.world_serial.specs.Common.{ℕ, suc, List, [], Entry, Cell, Context, Cargo}
+use Rattle.std.specs.Prelude.{◌∷◌, not, ◌==◌, Option, Some, None, filter}
 use Rattle.actor_theory.specs.Order.{ordered}
-use Rattle.context_meaning.specs.declared.context.Context.{Context}
-use Rattle.context_meaning.specs.declared.cargo.Cargo.{Cargo}
 use Rattle.naive_meaning.specs.declared.record.ContextRecord.{ContextRecord}
 use Rattle.context_core.specs.Cells.{record_of}
 

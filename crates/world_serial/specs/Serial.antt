@@ -1,6 +1,6 @@
 -- The run of contexts and reader on one thread.
-use Rattle.std.specs.Prelude.{◌≡◌, ℕ, suc, List, [], Bool, false, ◌⊎◌}
-use Rattle.actor_theory.specs.declared.entry.Entry.{Entry}
+use Rattle.world_serial.specs.Common.{◌≡◌, ℕ, suc, List, [], Entry, Program, Context, Cargo, Item}
+use Rattle.std.specs.Prelude.{Bool, false, ◌⊎◌}
 use Rattle.actor_theory.specs.Language.{Language}
 use Rattle.actor_theory.specs.World.{World as Moment, turn_of, IsFinished}
 use Rattle.actor_theory.specs.Joined.{joined}
@@ -9,10 +9,6 @@ use Rattle.actor_theory.specs.Order.{ordered}
 use Rattle.actor_theory.specs.Measure.{joined_weight, joined_cost}
 use Rattle.actor_theory.specs.Rounding.{Rounded}
 use Rattle.actor_theory.specs.Faithful.{IsBoot}
-use Rattle.typed_program.specs.declared.program.Program.{Program}
-use Rattle.context_meaning.specs.declared.context.Context.{Context}
-use Rattle.context_meaning.specs.declared.cargo.Cargo.{Cargo}
-use Rattle.naive_meaning.specs.declared.entry.Item.{Item}
 use Rattle.naive_meaning.specs.Actors.{contexts_of, reader_of}
 use Rattle.naive_meaning.specs.declared.record.Settings.{Settings}
 use Rattle.naive_meaning.specs.declared.record.Record.{Record}

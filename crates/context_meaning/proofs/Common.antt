@@ -1,0 +1,47 @@
+-- The names that most files here cite, passed on from one place. Declares nothing.
+pub use Rattle.std.proofs.Common.{All, Bool, Contains, Err, List, None, Option, Some, [], ap, arith, false, filter, find, if◌then◌else◌, inl, inr, length, length-append, map, nat_le, nat_lt, not, refl, slice_get, subst, suc, sym, true, zero, ℕ, ⊎_elim, ◌++◌, ◌+◌, ◌-◌, ◌<◌, ◌∙◌, ◌∷◌, ◌≡◌, ◌≤◌, ◌⊎◌}
+pub use Rattle.std.proofs.lemmas.Bool.{and_parts, cond_both, eqb-true}
+pub use Rattle.std.proofs.lemmas.List.Elements.{All-cons, All-contains, All-filter, All-head, All-nil, All-push, All-tail, All-weaker}
+pub use Rattle.std.proofs.lemmas.Option.{same_Some, slice_get_within}
+pub use Rattle.std.specs.List.{AllByRecursion, list_all}
+pub use Rattle.action_host.specs.Scenes.{Scene}
+pub use Rattle.action_host.specs.declared.host.Effect.{Effect}
+pub use Rattle.action_host.specs.declared.host.End.{End}
+pub use Rattle.body_meaning.specs.Acts.{Act, act_of, come_to}
+pub use Rattle.body_meaning.specs.Expressions.{Calls, Reach, value_of}
+pub use Rattle.body_meaning.specs.Runs.{Ended, M, Outcome, Went}
+pub use Rattle.body_meaning.specs.Statements.{body_of}
+pub use Rattle.body_meaning.specs.declared.run.Flow.{Flow}
+pub use Rattle.body_meaning.specs.declared.run.Move.{Move}
+pub use Rattle.context_meaning.specs.Contexts.{apply, apply_all, charged, instance_of, is_busy, is_instance, put_globals, scene_of, spend, unless_spent, with_globals, with_instance, with_listener, without_instance, without_listeners}
+pub use Rattle.context_meaning.specs.Ends.{act_in, dying, fault_line, finished, idle, last_run, ondie_of, ran, run_in, taken}
+pub use Rattle.context_meaning.specs.Fits.{CargoFits, ContextFits, InstanceFits, ListenerFits, MayRun}
+pub use Rattle.context_meaning.specs.Turns.{begun, births_in, body_number, callback_locals, completed, defaults_in, drained, event_handled, first_handled, fits, front_handled, handled, is_born, is_empty, load_handled, rowed, settled, stepped, stepped_born, stepped_found, template_of}
+pub use Rattle.context_meaning.specs.declared.cargo.Cargo.{Cargo}
+pub use Rattle.context_meaning.specs.declared.context.Context.{Context}
+pub use Rattle.context_meaning.specs.declared.context.Instance.{Instance}
+pub use Rattle.context_meaning.specs.declared.context.Listener.{Listener}
+pub use Rattle.epl_values.specs.declared.shape.EventShape.{EventShape}
+pub use Rattle.epl_values.specs.declared.shape.Shape.{Shape}
+pub use Rattle.epl_values.specs.declared.value.Pair.{Pair}
+pub use Rattle.epl_values.specs.declared.value.Value.{Value, Value-F, out-Value}
+pub use Rattle.typed_program.specs.Programs.{ends_plain, runs_plain}
+pub use Rattle.typed_program.specs.Shapes.{stands}
+pub use Rattle.typed_program.specs.Typed.{Typed}
+pub use Rattle.typed_program.specs.declared.expression.Method.{Method}
+pub use Rattle.typed_program.specs.declared.expression.TypedExpr.{TypedExpr}
+pub use Rattle.typed_program.specs.declared.expression.TypedSuffix.{TypedSuffix}
+pub use Rattle.typed_program.specs.declared.program.Action.{Action}
+pub use Rattle.typed_program.specs.declared.program.Global.{Global}
+pub use Rattle.typed_program.specs.declared.program.Monitor.{Monitor}
+pub use Rattle.typed_program.specs.declared.program.Program.{Program}
+pub use Rattle.typed_program.specs.declared.program.Site.{Site}
+pub use Rattle.typed_program.specs.declared.statement.Stmt.{Stmt}
+pub use Rattle.typed_program.specs.declared.term.TemplateShape.{TemplateShape}
+pub use Rattle.typed_program.specs.declared.term.Term.{Term}
+pub use Rattle.typed_runs.specs.Bodies.{GlobalsFit, head_of}
+pub use Rattle.value_rules.specs.Costs.{cost_of}
+pub use Rattle.value_rules.specs.Defaults.{default_of}
+pub use Rattle.value_shapes.proofs.Defaults.{default_fits}
+pub use Rattle.value_shapes.proofs.Lists.{fit_cons, fit_nil}
+pub use Rattle.value_shapes.specs.Fits.{AllFit}
