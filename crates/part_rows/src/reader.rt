@@ -89,6 +89,7 @@ impl<'t> Reader<'t> {
     }
 
     /// The string that is next.
+    #[tactic(auto, using(value_steps::proofs::Called::text_orderly))]
     fn string(&mut self, alloc: Global) -> Result<Value>
         ensures { IfOk result IsOrderly }
     {
@@ -102,6 +103,7 @@ impl<'t> Reader<'t> {
     }
 
     /// `true`, `false`, `no_context`, `context(3)`, `listener(7)`, a string, or else an integer.
+    #[tactic(auto, using(value_steps::proofs::Called::integer_orderly, value_steps::proofs::Called::truth_orderly, value_steps::proofs::Called::none_orderly, value_steps::proofs::Called::context_orderly, value_steps::proofs::Called::listener_orderly))]
     fn scalar(&mut self, alloc: Global) -> Result<Value>
         ensures { IfOk result IsOrderly }
     {
@@ -132,6 +134,7 @@ impl<'t> Reader<'t> {
 
     /// A value as a program writes it: `7`, `"a"`, `[1,2]`, `{"a":1}`, `Point(1,"x")`.
     #[cycle(values)]
+    #[tactic(auto, using(value_steps::proofs::Called::sequence_orderly, value_steps::proofs::Called::dictionary_orderly, value_steps::proofs::Called::event_orderly))]
     pub fn value(&mut self, alloc: Global, types: &EventShapes, depth: usize) -> Result<Value>
         ensures { IfOk result IsOrderly }
     {
@@ -164,11 +167,12 @@ impl<'t> Reader<'t> {
         ensures { IfOk result AreOrderly }
     {
         let mut values = List::new(alloc);
-        for _ in 0..MOST {
+        'items: for _ in 0..MOST {
             if self.sign(close) {
                 return Ok(values);
             }
-            values.push(self.value(alloc, types, depth)?)?;
+            let item = self.value(alloc, types, depth)?;
+            values.push(item)?;
             self.sign(",");
         }
         bail!("too many values")
@@ -208,7 +212,7 @@ impl<'t> Reader<'t> {
         ensures orderly { IfOk result AreOrderlyPairs }
     {
         let mut pairs = Pairs::new(alloc);
-        for _ in 0..MOST {
+        'entries: for _ in 0..MOST {
             if self.sign("}") {
                 return Ok(pairs);
             }
@@ -248,11 +252,11 @@ impl<'t> Reader<'t> {
         let mut moves = List::new(alloc);
         self.rest = behind_blanks(self.rest);
         ensure!(self.sign("at"), "a path begins with at");
-        for _ in 0..MOST {
-            match self.step(alloc, types)? {
-                Some(step) => moves.push(step)?,
-                None => return Ok(moves),
-            }
+        'steps: for _ in 0..MOST {
+            let Some(step) = self.step(alloc, types)? else {
+                return Ok(moves);
+            };
+            moves.push(step)?;
         }
         bail!("too many steps")
     }
