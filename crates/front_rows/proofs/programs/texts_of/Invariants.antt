@@ -3,6 +3,4 @@ use Rattle.std.specs.List.{AllByRecursion}
 use Rattle.front_rows.proofs.programs.texts_of.Given as goal
 
 abbrev pub invariant-files : goal.invariant-files
-invariant-files g l = record {
-  short : AllByRecursion (λ (text : List ℕ). length text < 4294967295) l.texts;
-}
+invariant-files l = AllByRecursion (λ (text : List ℕ). length text < 4294967295) l.texts
