@@ -108,7 +108,7 @@ fn event(
 {
     let name = event.name.text.as_str();
     let again = before.names.has(name);
-    let past = is_past(alloc, facts.kinds, before.events, name)?;
+    let past = is_past(alloc, facts.kinds, facts.depths, before.events, name)?;
     named(event.name.spot, again, past)?;
     fields(alloc, facts, event.fields.as_slice())?;
     Ok(add_event(alloc, before, name)?)
