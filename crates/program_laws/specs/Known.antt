@@ -15,7 +15,7 @@ use Rattle.type_table.specs.declared.table.Table.{Table}
 use Rattle.type_table.specs.declared.table.ActionHead.{ActionHead}
 use Rattle.expr_rules.specs.declared.placed.Gives.{Gives}
 use Rattle.expr_rules.specs.declared.placed.Gives.TheVariants as gives
-use Rattle.expr_rules.specs.Asked.{Wish, Statement, Exactly, Key}
+use Rattle.expr_rules.specs.Asked.{Wish, Statement, Unknown, Exactly, Key}
 use Rattle.expr_rules.specs.Calls.{action_named, param_wants, result_given}
 use Rattle.expr_rules.specs.Names.{seen}
 use Rattle.expr_rules.specs.Places.{fits, is_key}
@@ -73,8 +73,9 @@ pub record KnowsTable (table : Table) (names : Names) (scope : Scope) : Type 0 w
 pub record KnowsNamed (names : Names) (scope : Scope) (named : List ℕ → Bool) : Type 0 where
   pub known_at : (name : List ℕ) (s : Seen) → named name ≡ true → seen scope name ≡ Some s → KnowsName names s
 
--- what is asked names what is there
+-- what is asked is known, and names what is there
 abbrev pub wish_stands : List EventShape → Wish → Bool
+wish_stands types Unknown = false
 wish_stands types (Exactly s) = stands types s
 wish_stands types (Key (Some s)) = stands types s && is_scalar s
 wish_stands types wish = true

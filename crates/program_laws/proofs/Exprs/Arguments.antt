@@ -11,8 +11,8 @@ use Rattle.type_table.specs.declared.table.ParamHead.{ParamHead}
 use Rattle.expr_rules.specs.declared.asked.Paths.{Paths}
 use Rattle.expr_rules.specs.declared.calls.Arguments.{Arguments}
 use Rattle.expr_rules.specs.declared.placed.Judged.{Judged}
-use Rattle.expr_rules.specs.Asked.{asked_by, like}
-use Rattle.expr_rules.specs.Calls.{wanted_shape, next_wanted, argument_of, argument_found, arguments_found, no_arguments, count_code, param_wants, call_paths, items_of, typed_arguments}
+use Rattle.expr_rules.specs.Asked.{Wish, Value, Exactly, asked_by, like}
+use Rattle.expr_rules.specs.Calls.{wish_at, next_wish, argument_of, argument_found, arguments_found, no_arguments, count_code, param_wants, call_paths, items_of, typed_arguments}
 use Rattle.expr_rules.specs.Operators.{Part}
 use Rattle.expr_rules.specs.Then.{and_then, through}
 use Rattle.program_laws.specs.Known.{wish_stands}
@@ -44,9 +44,9 @@ take_whole : (xs : List Shape) → take (length xs) xs ≡ xs
 take_whole [] = refl
 take_whole (x ∷ xs) = ap (λ (l : List Shape). x ∷ l) (take_whole xs)
 
-asked_at : (xs : List Shape) (n : ℕ) (o : Option Shape) → slice_get xs n ≡ o → wanted_shape (slice_get (asked_shapes xs) n) ≡ o
-asked_at [] n o h = h
-asked_at (x ∷ xs) zero o h = h
+asked_at : (xs : List Shape) (n : ℕ) (o : Option Shape) → slice_get xs n ≡ o → wish_at (slice_get (asked_shapes xs) n) ≡ like o
+asked_at [] n o h = ap like h
+asked_at (x ∷ xs) zero o h = ap like h
 asked_at (x ∷ xs) (suc n) o h = asked_at xs n o h
 
 module _ (names : Names) where
@@ -64,16 +64,16 @@ module _ (names : Names) where
   pub taken_start : (shapes : List Shape) (permitted : Paths) (wants : List (Option Shape)) → wants ≡ asked_shapes shapes → Taken shapes (no_arguments permitted wants)
   taken_start shapes permitted wants is = record { asked = is; taken = λ le. refl }
 
-  asked_next : (shapes : List Shape) (a : Arguments) (o : Option Shape) → Taken shapes a → slice_get shapes (length a.items) ≡ o → next_wanted a ≡ o
-  asked_next shapes a o t at = ap (λ (w : List (Option Shape)). wanted_shape (slice_get w (length a.items))) t.asked ∙ asked_at shapes (length a.items) o at
+  asked_next : (shapes : List Shape) (a : Arguments) (o : Option Shape) → Taken shapes a → slice_get shapes (length a.items) ≡ o → next_wish a ≡ like o
+  asked_next shapes a o t at = ap (λ (w : List (Option Shape)). wish_at (slice_get w (length a.items))) t.asked ∙ asked_at shapes (length a.items) o at
 
   abbrev with_item : Arguments → Judged → Arguments
   with_item a j = record { wants = a.wants; paths = a.paths; items = a.items ++ j.typed ∷ [] }
 
-  argument_then : (shapes : List Shape) (a : Arguments) (part : Part) (w : Option Shape) → Answers names part → next_wanted a ≡ w → wish_stands names.types (like w) ≡ true → ((j : Judged) → Answering names (like w) j → Taken shapes (with_item a j)) → Sure (Taken shapes) (argument_found a part)
+  argument_then : (shapes : List Shape) (a : Arguments) (part : Part) (w : Wish) → Answers names part → next_wish a ≡ w → wish_stands names.types w ≡ true → ((j : Judged) → Answering names w j → Taken shapes (with_item a j)) → Sure (Taken shapes) (argument_found a part)
   argument_then shapes a part w p is stands next =
-      subst (λ (v : Option Shape). Sure (Taken shapes) (and_then (part (asked_by (like v) a.paths)) (argument_of a))) (sym is)
-      (sure_then (Answering names (like w)) (Taken shapes) (part (asked_by (like w) a.paths)) (argument_of a) (p.at_demand (asked_by (like w) a.paths) stands) (λ j b. sure_sound (Taken shapes) (with_item a j) (next j b)))
+      subst (λ (v : Wish). Sure (Taken shapes) (and_then (part (asked_by v a.paths)) (argument_of a))) (sym is)
+      (sure_then (Answering names w) (Taken shapes) (part (asked_by w a.paths)) (argument_of a) (p.at_demand (asked_by w a.paths) stands) (λ j b. sure_sound (Taken shapes) (with_item a j) (next j b)))
 
   past_taken : (shapes : List Shape) (a : Arguments) (j : Judged) → Taken shapes a → slice_get shapes (length a.items) ≡ None → Taken shapes (with_item a j)
   past_taken shapes a j t at = record { asked = t.asked; taken = λ le. absurd (let k = slice_past shapes (length a.items) at in let m = length_push a.items j.typed in omega arith) }
@@ -91,8 +91,8 @@ module _ (names : Names) where
   }
 
   argument_at : (shapes : List Shape) → list_all (stands names.types) shapes ≡ true → (a : Arguments) (part : Part) (o : Option Shape) → slice_get shapes (length a.items) ≡ o → Taken shapes a → Answers names part → Sure (Taken shapes) (argument_found a part)
-  argument_at shapes all a part None at t p = argument_then shapes a part None p (asked_next shapes a None t at) refl (λ j b. past_taken shapes a j t at)
-  argument_at shapes all a part (Some s) at t p = argument_then shapes a part (Some s) p (asked_next shapes a (Some s) t at) (every_at (stands names.types) shapes (length a.items) s all at) (λ j b. next_taken shapes a j s t at (exact_is_of names s j b))
+  argument_at shapes all a part None at t p = argument_then shapes a part Value p (asked_next shapes a None t at) refl (λ j b. past_taken shapes a j t at)
+  argument_at shapes all a part (Some s) at t p = argument_then shapes a part (Exactly s) p (asked_next shapes a (Some s) t at) (every_at (stands names.types) shapes (length a.items) s all at) (λ j b. next_taken shapes a j s t at (exact_is_of names s j b))
 
   pub arguments_sure : (shapes : List Shape) → list_all (stands names.types) shapes ≡ true → (start : Arguments) (parts : List Part) → AllByRecursion (Answers names) parts → Taken shapes start → Sure (Taken shapes) (arguments_found start parts)
   arguments_sure shapes all start parts each t = sure_through (Answers names) (Taken shapes) argument_found (λ a part i p. argument_at shapes all a part (slice_get shapes (length a.items)) refl i p) start parts each t
@@ -113,7 +113,7 @@ arguments_length start [] = omega arith
 arguments_length start (p ∷ parts) =
     let next = (argument_found start p).part in
     let more = arguments_length next parts in
-    let m = length_push start.items (p (asked_by (like (next_wanted start)) start.paths)).part.typed in
+    let m = length_push start.items (p (asked_by (next_wish start) start.paths)).part.typed in
     omega arith
 
 -- arguments, each of the shape of its parameter, where as many stand as are asked

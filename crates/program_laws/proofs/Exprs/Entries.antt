@@ -71,9 +71,10 @@ module _ (names : Names) where
 
   value_first : (entries : List TypedEntry) (part : Part) (key : Judged) → entries ≡ [] → Answers names part → Answering names (Key None) key → Sure Alike (value_found (record { key = None; value = None; entries = entries }) part key)
   unfolding value_found entry_of
-  value_first entries part key none p a =
-      sure_then (Answering names Value) Alike (part (plain Value)) (entry_of (record { key = None; value = None; entries = entries }) key) (p.at_demand (plain Value) refl)
-      (λ j b. sure_sound Alike (record { key = shape_of key.typed; value = shape_of j.typed; entries = entries ++ entry key j ∷ [] }) (first_alike entries key j none a b))
+  value_first (x ∷ entries) part key none p a = absurd (cc)
+  value_first [] part key none p a =
+      sure_then (Answering names Value) Alike (part (plain Value)) (entry_of (record { key = None; value = None; entries = [] }) key) (p.at_demand (plain Value) refl)
+      (λ j b. sure_sound Alike (record { key = shape_of key.typed; value = shape_of j.typed; entries = [] ++ entry key j ∷ [] }) (first_alike [] key j none a b))
 
   value_next : (k v : Shape) (entries : List TypedEntry) (part : Part) (key : Judged) → LikeShapes (Some k) (Some v) entries → Answers names part → Answering names (Key (Some k)) key → Sure Alike (value_found (record { key = Some k; value = Some v; entries = entries }) part key)
   unfolding value_found entry_of

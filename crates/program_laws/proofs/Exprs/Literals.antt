@@ -2,6 +2,7 @@
 use Rattle.std.proofs.Common.{◌≡◌, ℕ, ℤ, Bool, true, false, List, [], ◌∷◌, ◌++◌, map, Option, Some, None, refl, sym, ap, subst, ◌∙◌, true≢false, if◌then◌else◌, pos}
 use Rattle.std.specs.List.{list_all, AllByRecursion}
 use Rattle.span_text.specs.declared.spot.Spot.{Spot}
+use Rattle.epl_values.specs.declared.shape.EventShape.{EventShape}
 use Rattle.epl_values.specs.declared.shape.Shape.{Shape, Shape-F, out-Shape}
 use Rattle.epl_values.specs.declared.shape.Shape.TheVariants as shape
 use Rattle.epl_values.specs.declared.shape.Shape.TheOpen as layer
@@ -14,8 +15,8 @@ use Rattle.typed_program.specs.Expressions.{Names, checked, shape_of, is_of, seq
 use Rattle.expr_rules.specs.declared.placed.Gives.TheVariants as gives
 use Rattle.expr_rules.specs.declared.placed.Judged.{Judged}
 use Rattle.expr_rules.specs.declared.literals.Elements.{Elements}
-use Rattle.expr_rules.specs.Asked.{Demand, Wish, Value, Exactly, plain, like}
-use Rattle.expr_rules.specs.Literals.{literal, literal_stands, integer_stands, integer_found, integer_value, greatest, number_of, within, fixed, empty_code, empty_stands, text_stands, boolean_stands, current_stands, new_stands, element_of, element_found, no_elements, sequence_items, sequence_of, sequence_found}
+use Rattle.expr_rules.specs.Asked.{Demand, Wish, Statement, Value, Unknown, Exactly, Key, Event, Sequence, Channel, plain}
+use Rattle.expr_rules.specs.Literals.{literal, literal_stands, integer_stands, integer_found, integer_value, greatest, number_of, within, fixed, empty_code, empty_stands, text_stands, boolean_stands, current_stands, new_stands, like_those, element_of, element_found, no_elements, sequence_items, sequence_of, sequence_found}
 use Rattle.expr_rules.specs.Operators.{Part}
 use Rattle.expr_rules.specs.Places.{placed}
 use Rattle.expr_rules.specs.Then.{and_then, through}
@@ -68,12 +69,22 @@ module _ (names : Names) where
 
   -- ---- literals without elements or entries
 
-  empty_at : (spot : Spot) (demand : Demand) (o : Option Shape) (n : TypedNode) → ((s : Shape) → o ≡ Some s → Given names n (Some s)) → Sure (Answering names demand.wish) (empty_stands o n spot demand)
-  empty_at spot demand None n h = stands_sure names spot demand (Some (empty_code demand.wish)) None gives.Unknown n (λ none. absurd (cc))
-  empty_at spot demand (Some s) n h = stands_sure names spot demand None None (gives.Value s) n (λ none. h s refl)
+  no_empty_code : (types : List EventShape) (w : Wish) → wish_stands types w ≡ true → empty_code w ≡ None → ⊥
+  no_empty_code types Statement h none = cc
+  no_empty_code types Value h none = cc
+  no_empty_code types Unknown h none = true≢false (sym h)
+  no_empty_code types (Exactly s) h none = cc
+  no_empty_code types (Key s) h none = cc
+  no_empty_code types Event h none = cc
+  no_empty_code types Sequence h none = cc
+  no_empty_code types Channel h none = cc
+
+  empty_at : (spot : Spot) (demand : Demand) → wish_stands names.types demand.wish ≡ true → (o : Option Shape) (n : TypedNode) → ((s : Shape) → o ≡ Some s → Given names n (Some s)) → Sure (Answering names demand.wish) (empty_stands o n spot demand)
+  empty_at spot demand stands None n h = stands_sure names spot demand (empty_code demand.wish) None gives.Unknown n (λ none. absurd (no_empty_code names.types demand.wish stands none))
+  empty_at spot demand stands (Some s) n h = stands_sure names spot demand None None (gives.Value s) n (λ none. h s refl)
 
   pub empty_sure : (spot : Spot) (demand : Demand) (is : Shape → Bool) (n : TypedNode) → wish_stands names.types demand.wish ≡ true → ((s : Shape) → is s ≡ true → node_checked names n (Some s) ≡ true) → Sure (Answering names demand.wish) (empty_stands (fixed is demand.wish) n spot demand)
-  empty_sure spot demand is n stands h = empty_at spot demand (fixed is demand.wish) n (λ s at.
+  empty_sure spot demand is n stands h = empty_at spot demand stands (fixed is demand.wish) n (λ s at.
       let b = fixed_is is demand.wish s at in
       record { there = subst (λ (w : Wish). wish_stands names.types w ≡ true) b.0 stands; node_holds = h s b.1 })
 
@@ -95,10 +106,11 @@ module _ (names : Names) where
         all_push (is_of known.0) (checked names) items j.typed (ap (λ (l : List TypedExpr). list_all (is_of known.0) (map (checked names) l)) none) (is_of_known names known.0 j.typed a.whole known.1),
       )
 
-  element_at : (o : Option Shape) (items : List TypedExpr) (part : Part) → LikeShape o items → Answers names part → Sure Alike (and_then (part (plain (like o))) (element_of (record { shape = o; items = items })))
-  element_at None items part i p =
-      sure_then (Answering names Value) Alike (part (plain Value)) (element_of (record { shape = None; items = items })) (p.at_demand (plain Value) refl)
-      (λ j a. sure_sound Alike (record { shape = shape_of j.typed; items = items ++ j.typed ∷ [] }) (first_alike items j i a))
+  element_at : (o : Option Shape) (items : List TypedExpr) (part : Part) → LikeShape o items → Answers names part → Sure Alike (and_then (part (plain (like_those items o))) (element_of (record { shape = o; items = items })))
+  element_at None (x ∷ items) part i p = absurd (cc)
+  element_at None [] part i p =
+      sure_then (Answering names Value) Alike (part (plain Value)) (element_of (record { shape = None; items = [] })) (p.at_demand (plain Value) refl)
+      (λ j a. sure_sound Alike (record { shape = shape_of j.typed; items = [] ++ j.typed ∷ [] }) (first_alike [] j i a))
   element_at (Some s) items part i p =
       sure_then (Answering names (Exactly s)) Alike (part (plain (Exactly s))) (element_of (record { shape = Some s; items = items })) (p.at_demand (plain (Exactly s)) i.0)
       (λ j a. sure_sound Alike (record { shape = Some s; items = items ++ j.typed ∷ [] }) (i.0, all_push (is_of s) (checked names) items j.typed i.1 (exact_is_of names s j a)))

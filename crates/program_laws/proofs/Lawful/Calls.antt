@@ -25,8 +25,8 @@ use Rattle.expr_rules.specs.declared.asked.Paths.{Paths}
 use Rattle.expr_rules.specs.declared.asked.Paths.TheVariants as paths
 use Rattle.expr_rules.specs.declared.calls.Arguments.{Arguments}
 use Rattle.expr_rules.specs.declared.placed.Gives.TheVariants as gives
-use Rattle.expr_rules.specs.Asked.{Demand, asked_by, like}
-use Rattle.expr_rules.specs.Calls.{next_wanted, argument_of, argument_found, arguments_found, no_arguments, fields_at, param_wants, is_callback, callback_code, action_in, action_named, count_code, event_plan, action_plan, missing_plan, plan_of, callee_code, call_stands, plan_found, call_found, context_code, context_stands, context_start, context_found, items_of, typed_arguments}
+use Rattle.expr_rules.specs.Asked.{Demand, asked_by}
+use Rattle.expr_rules.specs.Calls.{next_wish, argument_of, argument_found, arguments_found, no_arguments, fields_at, param_wants, is_callback, callback_code, action_in, action_named, count_code, event_plan, action_plan, missing_plan, plan_of, callee_code, call_stands, plan_found, call_found, context_code, context_stands, context_start, context_found, items_of, typed_arguments}
 use Rattle.expr_rules.specs.Names.{item_at}
 use Rattle.expr_rules.specs.Operators.{Part}
 use Rattle.expr_rules.specs.Then.{lower}
@@ -76,7 +76,7 @@ module _ (sight : Sight) where
 
   argument_kept : (ps : Paths) (a : Arguments) (part : Part) → ArgumentsKept ps a → PartKept sight part → Sure (ArgumentsKept ps) (argument_found a part)
   argument_kept ps a part k p =
-      let asked = asked_by (like (next_wanted a)) a.paths in
+      let asked = asked_by (next_wish a) a.paths in
       sure_then (Standing sight asked) (ArgumentsKept ps) (part asked) (argument_of a) (p.at_demand asked)
       (λ j s. sure_sound (ArgumentsKept ps) (record { wants = a.wants; paths = a.paths; items = a.items ++ j.typed ∷ [] })
       (record {

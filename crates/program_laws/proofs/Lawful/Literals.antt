@@ -19,9 +19,9 @@ use Rattle.expr_rules.specs.declared.literals.EntryList.{EntryList}
 use Rattle.expr_rules.specs.declared.placed.Gives.{Gives}
 use Rattle.expr_rules.specs.declared.placed.Gives.TheVariants as gives
 use Rattle.expr_rules.specs.declared.placed.Judged.{Judged}
-use Rattle.expr_rules.specs.Asked.{Demand, Wish, like}
+use Rattle.expr_rules.specs.Asked.{Demand, Wish}
 use Rattle.expr_rules.specs.Asked.{plain as plainly}
-use Rattle.expr_rules.specs.Literals.{Pair, literal, literal_stands, integer_stands, integer_found, integer_value, greatest, number_of, within, fixed, empty_code, empty_stands, text_stands, boolean_stands, current_stands, new_stands, element_of, element_found, no_elements, sequence_items, sequence_given, sequence_of, sequence_found, known_first, entry_of, value_found, entry_found, key_wish, no_entries, dictionary_given, dictionary_items, dictionary_of, dictionary_found}
+use Rattle.expr_rules.specs.Literals.{Pair, literal, literal_stands, integer_stands, integer_found, integer_value, greatest, number_of, within, fixed, empty_code, empty_stands, text_stands, boolean_stands, current_stands, new_stands, element_of, element_found, no_elements, sequence_items, sequence_given, sequence_of, sequence_found, known_first, entry_of, value_found, entry_found, key_wish, no_entries, dictionary_given, dictionary_items, dictionary_of, dictionary_found, element_wish, value_wish}
 use Rattle.expr_rules.specs.Operators.{Part}
 use Rattle.expr_rules.specs.Places.{placed, shape_of_expr}
 use Rattle.typed_program.specs.Shapes.{is_sequence, is_dictionary}
@@ -81,7 +81,7 @@ module _ (sight : Sight) where
   -- ---- literals without elements or entries
 
   empty_at : (spot : Spot) (demand : Demand) (o : Option Shape) (n : TypedNode) → ((s : Option Shape) → node_pathed sight n s ≡ value s true) → Sure (Standing sight demand) (empty_stands o n spot demand)
-  empty_at spot demand None n is = value_kept sight spot demand (Some (empty_code demand.wish)) gives.Unknown n true is (λ none. refl)
+  empty_at spot demand None n is = value_kept sight spot demand (empty_code demand.wish) gives.Unknown n true is (λ none. refl)
   empty_at spot demand (Some s) n is = value_kept sight spot demand None (gives.Value s) n true is (λ none. refl)
 
   -- ---- sequences
@@ -101,9 +101,9 @@ module _ (sight : Sight) where
 
   element_kept : (elements : Elements) (part : Part) → ElementsKept elements → PartKept sight part → Sure ElementsKept (element_found elements part)
   element_kept elements part c p =
-      sure_then (Standing sight (plainly (like elements.shape))) ElementsKept (part (plainly (like elements.shape))) (element_of elements) (p.at_demand (plainly (like elements.shape)))
+      sure_then (Standing sight (plainly (element_wish elements))) ElementsKept (part (plainly (element_wish elements))) (element_of elements) (p.at_demand (plainly (element_wish elements)))
       (λ j a. sure_sound ElementsKept (record { shape = known_first elements.shape (shape_of_expr j.typed); items = elements.items ++ j.typed ∷ [] })
-      (record { items_plain = all_push plain (path_of sight) elements.items j.typed c.items_plain (plain_asked (like elements.shape) j a) }))
+      (record { items_plain = all_push plain (path_of sight) elements.items j.typed c.items_plain (plain_asked (element_wish elements) j a) }))
 
   sequence_at : (spot : Spot) (demand : Demand) (items : List TypedExpr) (o : Option Shape) → all_of items ≡ true → Sure (Standing sight demand) (sequence_items items o spot demand)
   sequence_at spot demand [] o h = empty_at spot demand (fixed is_sequence demand.wish) (made.Sequence []) (sequence_path [])
@@ -151,8 +151,8 @@ module _ (sight : Sight) where
   value_found_kept : (entries : EntryList) (part : Part) (key : Judged) → EntriesKept entries → PartKept sight part → plain (path_of sight key.typed) ≡ true → Sure EntriesKept (value_found entries part key)
   unfolding value_found
   value_found_kept entries part key c p h =
-      sure_then (Standing sight (plainly (like entries.value))) EntriesKept (part (plainly (like entries.value))) (entry_of entries key) (p.at_demand (plainly (like entries.value)))
-      (λ j a. entry_of_kept entries key j c h (plain_asked (like entries.value) j a))
+      sure_then (Standing sight (plainly (value_wish entries))) EntriesKept (part (plainly (value_wish entries))) (entry_of entries key) (p.at_demand (plainly (value_wish entries)))
+      (λ j a. entry_of_kept entries key j c h (plain_asked (value_wish entries) j a))
 
   entry_kept : (entries : EntryList) (pair : Pair) → EntriesKept entries → PairKept pair → Sure EntriesKept (entry_found entries pair)
   entry_kept entries pair c p =

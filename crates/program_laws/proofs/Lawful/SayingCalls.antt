@@ -28,9 +28,9 @@ use Rattle.expr_rules.specs.declared.literals.EntryList.{EntryList}
 use Rattle.expr_rules.specs.declared.placed.Gives.{Gives}
 use Rattle.expr_rules.specs.declared.placed.Gives.TheVariants as gives
 use Rattle.expr_rules.specs.declared.placed.Judged.{Judged}
-use Rattle.expr_rules.specs.Asked.{Demand, plain, asked_by, like, inside}
-use Rattle.expr_rules.specs.Calls.{next_wanted, argument_of, argument_found, arguments_found, no_arguments, param_wants, action_named, plan_of, callee_node, callee_code, call_stands, plan_found, call_found, context_code, context_stands, context_start, context_found, call_paths, items_of, typed_arguments}
-use Rattle.expr_rules.specs.Literals.{Pair, element_of, element_found, no_elements, sequence_items, sequence_given, sequence_of, sequence_found, known_first, entry_of, value_found, entry_found, key_wish, no_entries, dictionary_given, dictionary_items, dictionary_of, dictionary_found}
+use Rattle.expr_rules.specs.Asked.{Demand, plain, asked_by, inside}
+use Rattle.expr_rules.specs.Calls.{next_wish, argument_of, argument_found, arguments_found, no_arguments, param_wants, action_named, plan_of, callee_node, callee_code, call_stands, plan_found, call_found, context_code, context_stands, context_start, context_found, call_paths, items_of, typed_arguments}
+use Rattle.expr_rules.specs.Literals.{Pair, element_of, element_found, no_elements, sequence_items, sequence_given, sequence_of, sequence_found, known_first, entry_of, value_found, entry_found, key_wish, no_entries, dictionary_given, dictionary_items, dictionary_of, dictionary_found, element_wish, value_wish}
 use Rattle.expr_rules.specs.Names.{seen, outer_code, variable, root_of, name_found}
 use Rattle.expr_rules.specs.Operators.{Part}
 use Rattle.expr_rules.specs.Places.{is_global, known, group_of, astray_code, shape_of_expr}
@@ -95,13 +95,13 @@ module _ (name : List ℕ) (s : Seen) where
 
   argument_keeps : Keeps name (PartSays name s) (λ a. Unit {0}) ArgumentsSay argument_found
   argument_keeps a n part p i =
-      let asked = asked_by (like (next_wanted a)) a.paths in
+      let asked = asked_by (next_wish a) a.paths in
       sure_then (λ (j : Judged). Unit {0}) (λ b. Unit {0} × (ArgumentsSay a → ArgumentsSay b)) (part asked) (argument_of a) (sure_any (part asked))
       (λ j u. sure_sound (λ b. Unit {0} × (ArgumentsSay a → ArgumentsSay b)) (record { wants = a.wants; paths = a.paths; items = items_with a.items j }) (tt, items_grow a.items j))
 
   argument_hits : Hits name (PartSays name s) (λ a. Unit {0}) ArgumentsSay argument_found
   argument_hits a n part p i is =
-      let asked = asked_by (like (next_wanted a)) a.paths in
+      let asked = asked_by (next_wish a) a.paths in
       sure_then (Mentions name s) (λ b. Unit {0} × ArgumentsSay b) (part asked) (argument_of a) (p.at_demand is asked)
       (λ j m. sure_sound (λ b. Unit {0} × ArgumentsSay b) (record { wants = a.wants; paths = a.paths; items = items_with a.items j }) (tt, items_hit a.items j m))
 
@@ -153,12 +153,12 @@ module _ (name : List ℕ) (s : Seen) where
 
   element_keeps : Keeps name (PartSays name s) (λ e. Unit {0}) ElementsSay element_found
   element_keeps elements n part p i =
-      sure_then (λ (j : Judged). Unit {0}) (λ e. Unit {0} × (ElementsSay elements → ElementsSay e)) (part (plain (like elements.shape))) (element_of elements) (sure_any (part (plain (like elements.shape))))
+      sure_then (λ (j : Judged). Unit {0}) (λ e. Unit {0} × (ElementsSay elements → ElementsSay e)) (part (plain (element_wish elements))) (element_of elements) (sure_any (part (plain (element_wish elements))))
       (λ j u. sure_sound (λ e. Unit {0} × (ElementsSay elements → ElementsSay e)) (elements_with elements j) (tt, items_grow elements.items j))
 
   element_hits : Hits name (PartSays name s) (λ e. Unit {0}) ElementsSay element_found
   element_hits elements n part p i is =
-      sure_then (Mentions name s) (λ e. Unit {0} × ElementsSay e) (part (plain (like elements.shape))) (element_of elements) (p.at_demand is (plain (like elements.shape)))
+      sure_then (Mentions name s) (λ e. Unit {0} × ElementsSay e) (part (plain (element_wish elements))) (element_of elements) (p.at_demand is (plain (element_wish elements)))
       (λ j m. sure_sound (λ e. Unit {0} × ElementsSay e) (elements_with elements j) (tt, items_hit elements.items j m))
 
   sequence_at : (spot : Spot) (demand : Demand) (items : List TypedExpr) (o : Option Shape) → Hit s (all_mention items) → Sure (Mentions name s) (sequence_items items o spot demand)
@@ -197,7 +197,7 @@ module _ (name : List ℕ) (s : Seen) where
   unfolding value_found entry_of
   entry_as P entries pair h =
       sure_then (λ (j : Judged). Unit {0}) P (pair.key (plain (key_wish entries.key))) (value_found entries pair.value) (sure_any (pair.key (plain (key_wish entries.key))))
-      (λ key u. sure_then (λ (j : Judged). Unit {0}) P (pair.value (plain (like entries.value))) (entry_of entries key) (sure_any (pair.value (plain (like entries.value))))
+      (λ key u. sure_then (λ (j : Judged). Unit {0}) P (pair.value (plain (value_wish entries))) (entry_of entries key) (sure_any (pair.value (plain (value_wish entries))))
       (λ value v. sure_sound P (entries_with entries key value) (h key value)))
 
   entry_keeps : Keeps name PairSays (λ e. Unit {0}) EntriesSay entry_found
@@ -215,10 +215,10 @@ module _ (name : List ℕ) (s : Seen) where
   value_says : (entries : EntryList) (part : Part) (m : Naming) → PartSays name s m part → (key : Judged) → (Mentions name s key) ⊎ (m name ≡ true) → Sure (λ e. Unit {0} × EntriesSay e) (value_found entries part key)
   unfolding value_found entry_of
   value_says entries part m p key (inl h) =
-      sure_then (λ (j : Judged). Unit {0}) (λ e. Unit {0} × EntriesSay e) (part (plain (like entries.value))) (entry_of entries key) (sure_any (part (plain (like entries.value))))
+      sure_then (λ (j : Judged). Unit {0}) (λ e. Unit {0} × EntriesSay e) (part (plain (value_wish entries))) (entry_of entries key) (sure_any (part (plain (value_wish entries))))
       (λ value u. sure_sound (λ e. Unit {0} × EntriesSay e) (entries_with entries key value) (tt, entry_hit entries key value (hit_first s (mentions key.typed) (mentions value.typed) h)))
   value_says entries part m p key (inr h) =
-      sure_then (Mentions name s) (λ e. Unit {0} × EntriesSay e) (part (plain (like entries.value))) (entry_of entries key) (p.at_demand h (plain (like entries.value)))
+      sure_then (Mentions name s) (λ e. Unit {0} × EntriesSay e) (part (plain (value_wish entries))) (entry_of entries key) (p.at_demand h (plain (value_wish entries)))
       (λ value k. sure_sound (λ e. Unit {0} × EntriesSay e) (entries_with entries key value) (tt, entry_hit entries key value (hit_second s (mentions key.typed) (mentions value.typed) k)))
 
   -- a key and its value

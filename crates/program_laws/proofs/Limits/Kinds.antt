@@ -28,8 +28,8 @@ pub record KindFine (kinds : List EventDecl) (e : EventDecl) : Type 0 where
 module _ (kinds : List EventDecl) where
   field_few : (before : List FieldDecl) (f : FieldDecl) → field_faults kinds before f ≡ [] → (length before < 64) × (count_of kinds (before ++ f ∷ []) ≤ 256)
   field_few before f none =
-      let one = no_both ((type_by (numbers kinds) f.shape).faults ++ told f.shape.spot (when (holds kinds f.shape) 3)) (told f.name.spot (when (is_named f.name.text before) 1 ++ when (nat_le 64 (length before) || nat_lt 256 (count_of kinds (before ++ f ∷ []))) 4)) none in
-      let codes = no_both (when (is_named f.name.text before) 1) (when (nat_le 64 (length before) || nat_lt 256 (count_of kinds (before ++ f ∷ []))) 4) (no_told f.name.spot _ one.1) in
+      let one = no_both (type_by (numbers kinds) f.shape).faults (told f.name.spot (when (is_named f.name.text before) 1 ++ when (holds kinds f.shape) 3 ++ when (nat_le 64 (length before) || nat_lt 256 (count_of kinds (before ++ f ∷ []))) 4)) none in
+      let codes = no_both (when (is_named f.name.text before) 1 ++ when (holds kinds f.shape) 3) (when (nat_le 64 (length before) || nat_lt 256 (count_of kinds (before ++ f ∷ []))) 4) (no_told f.name.spot _ one.1) in
       let few = or_parts (nat_le 64 (length before)) (nat_lt 256 (count_of kinds (before ++ f ∷ []))) (no_when _ 4 codes.1) in
       (leb-false 64 (length before) few.0, ltb-false 256 (count_of kinds (before ++ f ∷ [])) few.1)
 

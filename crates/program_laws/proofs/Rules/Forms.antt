@@ -17,7 +17,7 @@ use Rattle.expr_check.specs.Checks.{place_found}
 use Rattle.stmt_check.specs.declared.state.State.{State}
 use Rattle.stmt_check.specs.Bodies.{Around, when}
 use Rattle.stmt_check.specs.Captures.{none, expr_names, optional_names, place_names, either}
-use Rattle.stmt_check.specs.Statements.{exactly, asked, wanted, reads, print_read, log_read, route_read, send_read, call_read, assign_read, return_read, jump_read, return_codes, target_shape, maybe_read}
+use Rattle.stmt_check.specs.Statements.{exactly, asked, wanted, for_place, reads, print_read, log_read, route_read, send_read, call_read, assign_read, return_read, jump_read, return_codes, target_shape, maybe_read}
 use Rattle.stmt_check.specs.Steps.{◌>>=◌, pure, looks, tells}
 use Rattle.program_laws.proofs.Lawful.Rules.{LawRules}
 use Rattle.program_laws.proofs.Rules.Claims.{Claims, law_bind, law_pure, law_tells}
@@ -102,10 +102,10 @@ module _ (rules : LawRules) (f : Frame) (around : Around) (fitting : Fitting f a
   pub assign_law : {k : ℕ} (place : Place) (value : Expr) → Within (either (place_names place) (expr_names value)) f.named → (v : List Shape → List Visible) (s : State) → Claims f k k (Seeing v s) (Keeps f around law (either (place_names place) (expr_names value)) v s) s (assign_read around.table place value s)
   assign_law place value within v s =
       let to : Target = (looks {S = State} {A = Target} (λ s. place_found around.table s.scope place) s).part.part in
-      law_bind f (looks (λ s. place_found around.table s.scope place)) (λ to. reads around.table (wanted (target_shape to)) value >>= λ value. pure (made.Assign to.place value)) s
+      law_bind f (looks (λ s. place_found around.table s.scope place)) (λ to. reads around.table (for_place (target_shape to)) value >>= λ value. pure (made.Assign to.place value)) s
       (place_law rules f around fitting law place (within_first (place_names place) (expr_names value) within) v s (λ all h. h))
-      (law_bind f (reads around.table (wanted (target_shape to)) value) (λ value. pure (made.Assign to.place value)) _
-      (reads_law rules f around fitting law (wanted (target_shape to)) value (within_second (place_names place) (expr_names value) within) v _ (λ all h. still_sees h.0 h.1.still))
+      (law_bind f (reads around.table (for_place (target_shape to)) value) (λ value. pure (made.Assign to.place value)) _
+      (reads_law rules f around fitting law (for_place (target_shape to)) value (within_second (place_names place) (expr_names value) within) v _ (λ all h. still_sees h.0 h.1.still))
       (law_pure f _ _ (λ all h. kept_as f around law (either (place_names place) (expr_names value)) v s _ all (layer.Assign to.place _) _ (made.rolls-Assign to.place _) (record {
         lawful = both_true h.0.1.fine h.1.fine;
         behind = still_behind h.0.0 (still_on h.0.1.still h.1.still);

@@ -18,14 +18,14 @@ use Rattle.typed_program.specs.Expressions.{has, if_known, holds}
 use Rattle.typed_program.specs.Shapes.{same}
 use Rattle.typed_program.specs.Statements.{Body, stmt_holds, is_local, returns}
 use Rattle.type_table.specs.Types.{type_found}
-use Rattle.expr_rules.specs.Asked.{Exactly, Statement, Event, Channel, like}
+use Rattle.expr_rules.specs.Asked.{Exactly, Statement, Event, Channel, like, fixing}
 use Rattle.expr_check.specs.declared.check.Target.{Target}
 use Rattle.expr_check.specs.Checks.{place_found}
 use Rattle.program_laws.specs.Known.{answers, wish_stands, result_stands}
 use Rattle.stmt_check.specs.declared.state.State.{State}
 use Rattle.stmt_check.specs.Bodies.{Around, when, name_read, local_read}
 use Rattle.stmt_check.specs.Captures.{Names as Named, expr_names, optional_names, place_names, either}
-use Rattle.stmt_check.specs.Statements.{exactly, asked, wanted, reads, print_read, log_read, route_read, send_read, call_read, declare_read, declare_as_read, assign_read, return_read, jump_read, return_codes, target_shape, maybe_read}
+use Rattle.stmt_check.specs.Statements.{exactly, asked, wanted, for_place, reads, print_read, log_read, route_read, send_read, call_read, declare_read, declare_as_read, assign_read, return_read, jump_read, return_codes, target_shape, maybe_read}
 use Rattle.stmt_check.specs.Steps.{◌>>=◌, pure, given, looks, tells}
 use Rattle.type_table.specs.declared.scope.SeenKind.TheVariants as kind
 use Rattle.program_laws.proofs.Exprs.Accepted.{has_exact}
@@ -137,19 +137,19 @@ module _ (rules : Rules) (f : Frame) (around : Around) (fitting : Fitting f arou
   pub target_known : (to : Target) → to.known ≡ true → target_shape to ≡ Some to.place.shape
   target_known to h = ap (λ (b : Bool). if b then Some to.place.shape else None) h
 
-  target_stands : (all : List Shape) (to : Target) → PlaceAnswers (names_of f all) to → wish_stands f.program.types (like (target_shape to)) ≡ true
-  target_stands all to h = ap (λ (s : Option Shape). wish_stands f.program.types (like s)) (target_known to h.known) ∙ h.stands
+  target_stands : (all : List Shape) (to : Target) → PlaceAnswers (names_of f all) to → wish_stands f.program.types (fixing (target_shape to)) ≡ true
+  target_stands all to h = ap (λ (s : Option Shape). wish_stands f.program.types (fixing s)) (target_known to h.known) ∙ h.stands
 
-  target_has : (all : List Shape) (to : Target) (e : TypedExpr) → PlaceAnswers (names_of f all) to → answers (names_of f all) (like (target_shape to)) e ≡ true → has (names_of f all) to.place.shape e ≡ true
-  target_has all to e h k = has_exact (names_of f all) to.place.shape e (ap (λ (s : Option Shape). answers (names_of f all) (like s) e) (sym (target_known to h.known)) ∙ k)
+  target_has : (all : List Shape) (to : Target) (e : TypedExpr) → PlaceAnswers (names_of f all) to → answers (names_of f all) (fixing (target_shape to)) e ≡ true → has (names_of f all) to.place.shape e ≡ true
+  target_has all to e h k = has_exact (names_of f all) to.place.shape e (ap (λ (s : Option Shape). answers (names_of f all) (fixing s) e) (sym (target_known to h.known)) ∙ k)
 
   pub assign_claim : {k : ℕ} (place : Place) (value : Expr) → Within (either (place_names place) (expr_names value)) f.named → (s : State) → Claim f k k Free (Good f) s (assign_read around.table place value s)
   assign_claim place value within s =
       let to : Target = (looks {S = State} {A = Target} (λ s. place_found around.table s.scope place) s).part.part in
-      claim_bind f (looks (λ s. place_found around.table s.scope place)) (λ to. reads around.table (wanted (target_shape to)) value >>= λ value. pure (made.Assign to.place value)) s
+      claim_bind f (looks (λ s. place_found around.table s.scope place)) (λ to. reads around.table (for_place (target_shape to)) value >>= λ value. pure (made.Assign to.place value)) s
       (place_claim rules f around fitting place (within_first (place_names place) (expr_names value) within) s)
-      (claim_bind f (reads around.table (wanted (target_shape to)) value) (λ value. pure (made.Assign to.place value)) _
-      (reads_claim rules f around fitting (wanted (target_shape to)) value (within_second (place_names place) (expr_names value) within) _ (λ all h. target_stands all to h.1))
+      (claim_bind f (reads around.table (for_place (target_shape to)) value) (λ value. pure (made.Assign to.place value)) _
+      (reads_claim rules f around fitting (for_place (target_shape to)) value (within_second (place_names place) (expr_names value) within) _ (λ all h. target_stands all to h.1))
       (claim_pure f _ _ (λ all h. holds_as (body_of f all) (layer.Assign to.place _) _ (made.rolls-Assign to.place _) (both_true h.0.1.leads (target_has all to _ h.0.1 h.1)))))
 
   -- ---- results

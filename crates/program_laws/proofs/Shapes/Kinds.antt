@@ -98,11 +98,11 @@ module _ (kinds : List EventDecl) where
 
   field_fine : (before : List FieldDecl) (f : FieldDecl) → field_faults kinds before f ≡ [] → FieldFine f × (length before < 64)
   field_fine before f none =
-      let one = no_both ((type_by (numbers kinds) f.shape).faults ++ told f.shape.spot (when (holds kinds f.shape) 3)) (told f.name.spot (when (is_named f.name.text before) 1 ++ when (nat_le 64 (length before) || nat_lt 256 (count_of kinds (before ++ f ∷ []))) 4)) none in
-      let two = no_both (type_by (numbers kinds) f.shape).faults (told f.shape.spot (when (holds kinds f.shape) 3)) one.0 in
-      let codes = no_both (when (is_named f.name.text before) 1) (when (nat_le 64 (length before) || nat_lt 256 (count_of kinds (before ++ f ∷ []))) 4) (no_told f.name.spot _ one.1) in
+      let one = no_both (type_by (numbers kinds) f.shape).faults (told f.name.spot (when (is_named f.name.text before) 1 ++ when (holds kinds f.shape) 3 ++ when (nat_le 64 (length before) || nat_lt 256 (count_of kinds (before ++ f ∷ []))) 4)) none in
+      let codes = no_both (when (is_named f.name.text before) 1 ++ when (holds kinds f.shape) 3) (when (nat_le 64 (length before) || nat_lt 256 (count_of kinds (before ++ f ∷ []))) 4) (no_told f.name.spot _ one.1) in
+      let two = no_both (when (is_named f.name.text before) 1) (when (holds kinds f.shape) 3) codes.0 in
       let few = or_parts (nat_le 64 (length before)) (nat_lt 256 (count_of kinds (before ++ f ∷ []))) (no_when _ 4 codes.1) in
-      (record { type = two.0; free = no_when (holds kinds f.shape) 3 (no_told f.shape.spot (when (holds kinds f.shape) 3) two.1) }, leb-false 64 (length before) few.0)
+      (record { type = one.0; free = no_when (holds kinds f.shape) 3 two.1 }, leb-false 64 (length before) few.0)
 
   fields_fine : (before fs : List FieldDecl) → length before ≤ 64 → fields_faults kinds before fs ≡ [] → AllByRecursion FieldFine fs × (length before + length fs ≤ 64)
   fields_fine before [] few none = (tt, omega arith)
