@@ -19,10 +19,10 @@ use expr_rules::{
     Arguments, Asks, CallPlan, Chain, Elements, EntryList, Judged, Level, LinkChain, Logic,
     MethodCall, Need, Walk, argument_of, asked_by, boolean, call_stands, called_of, chain_of,
     chain_start, comparison_of, context_stands, context_start, current, demand_before, dictionary,
-    element_of, element_step, entry_of, field_found, group_of, index_asked, inside, integer,
-    joined, key_asked, leads, like, link_of, links_of, links_start, method_stands, minus_of,
+    element_asked, element_of, element_step, entry_of, field_found, group_of, index_asked, inside,
+    integer, joined, key_asked, leads, link_of, links_of, links_start, method_stands, minus_of,
     name_of, negated, new_stands, next_asked, no_elements, no_entries, not_of, plain, plan_of,
-    postfix_of, quoted, sequence, step_demand, walk_start,
+    postfix_of, quoted, sequence, step_demand, value_asked, walk_start,
 };
 use span_text::Spot;
 use std::alloc::Global;
@@ -160,7 +160,7 @@ fn element(
 ) -> Result<Elements, Refusal>
     ensures { Finds result (element_found elements (part_of table.now scope.now tree.now)) }
 {
-    let judged = judge_node(alloc, table, scope, tree, plain(like(&elements.shape)))?;
+    let judged = judge_node(alloc, table, scope, tree, plain(element_asked(&elements)))?;
     element_of(alloc, elements, judged)
 }
 
@@ -209,7 +209,7 @@ fn value(
 ) -> Result<EntryList, Refusal>
     ensures { Finds result (value_found entries (part_of table.now scope.now tree.now) key) }
 {
-    let judged = judge_node(alloc, table, scope, tree, plain(like(&entries.value)))?;
+    let judged = judge_node(alloc, table, scope, tree, plain(value_asked(&entries)))?;
     entry_of(alloc, entries, key, judged)
 }
 

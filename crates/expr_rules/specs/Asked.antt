@@ -10,10 +10,11 @@ use Rattle.expr_rules.specs.declared.asked.Need.{Need}
 use Rattle.expr_rules.specs.declared.asked.Paths.{Paths}
 use Rattle.expr_rules.specs.declared.asked.Paths.TheVariants as paths
 
--- nothing, a value, exactly a shape, a scalar key, an event, a sequence, a channel or context
+-- nothing, a value, a value of one shape that isn't known, exactly a shape, a scalar key, an event, a sequence, a channel or context
 pub data Wish : Type 0 where
   Statement : Wish
   Value : Wish
+  Unknown : Wish
   Exactly : (s : Shape) → Wish
   Key : (s : Option Shape) → Wish
   Event : Wish
@@ -34,6 +35,7 @@ pub record Demand : Type 0 where
 abbrev pub wish_of : Asks → Wish
 wish_of asks.Statement = Statement
 wish_of asks.Value = Value
+wish_of asks.Unknown = Unknown
 wish_of (asks.Exactly s) = Exactly s.now
 wish_of asks.Integer = Exactly shape.Integer
 wish_of asks.Boolean = Exactly shape.Boolean
@@ -62,6 +64,11 @@ asking asked = record { wish = wish_of asked.asks; paths = paths_where asked.pat
 abbrev pub like : Option Shape → Wish
 like None = Value
 like (Some s) = Exactly s
+
+-- the shape that a place fixes, though it may not be known: its type may be undeclared
+abbrev pub fixing : Option Shape → Wish
+fixing None = Unknown
+fixing (Some s) = Exactly s
 
 abbrev pub wish_wanted : Bool → Option Shape → Wish
 wish_wanted true s = like s

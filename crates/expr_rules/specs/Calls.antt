@@ -28,25 +28,25 @@ use Rattle.expr_rules.specs.declared.calls.Callee.{Callee}
 use Rattle.expr_rules.specs.declared.calls.CalleeKind.{CalleeKind}
 use Rattle.expr_rules.specs.declared.calls.CalleeKind.TheVariants as callee
 use Rattle.expr_rules.specs.declared.calls.CallPlan.{CallPlan}
-use Rattle.expr_rules.specs.Asked.{Demand, asked_by, like}
+use Rattle.expr_rules.specs.Asked.{Demand, Wish, Value, asked_by, fixing}
 use Rattle.expr_rules.specs.Names.{item_at}
 use Rattle.expr_rules.specs.Operators.{Part}
 use Rattle.expr_rules.specs.Places.{stands}
 use Rattle.expr_rules.specs.Then.{and_then, sound, through, lower}
 
--- what the argument behind those that stand is asked for; one too many is any value
-abbrev pub wanted_shape : Option (Option Shape) → Option Shape
-wanted_shape None = None
-wanted_shape (Some s) = s
+-- what the argument behind those that stand is asked for; one too many is any value, and its place fixes no type
+abbrev pub wish_at : Option (Option Shape) → Wish
+wish_at None = Value
+wish_at (Some s) = fixing s
 
-abbrev pub next_wanted : Arguments → Option Shape
-next_wanted arguments = wanted_shape (slice_get arguments.wants (length arguments.items))
+abbrev pub next_wish : Arguments → Wish
+next_wish arguments = wish_at (slice_get arguments.wants (length arguments.items))
 
 abbrev pub argument_of : Arguments → Judged → Found Arguments
 argument_of arguments j = sound (record { wants = arguments.wants; paths = arguments.paths; items = arguments.items ++ j.typed ∷ [] })
 
 abbrev pub argument_found : Arguments → Part → Found Arguments
-argument_found arguments part = and_then (part (asked_by (like (next_wanted arguments)) arguments.paths)) (argument_of arguments)
+argument_found arguments part = and_then (part (asked_by (next_wish arguments) arguments.paths)) (argument_of arguments)
 
 abbrev pub arguments_found : Arguments → List Part → Found Arguments
 arguments_found start parts = through argument_found start parts

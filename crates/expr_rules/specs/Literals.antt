@@ -13,9 +13,9 @@ use Rattle.expr_rules.specs.declared.placed.Gives.TheVariants as gives
 use Rattle.expr_rules.specs.declared.placed.Judged.{Judged}
 use Rattle.expr_rules.specs.declared.literals.Elements.{Elements}
 use Rattle.expr_rules.specs.declared.literals.EntryList.{EntryList}
-use Rattle.expr_rules.specs.Asked.{Demand, Wish, Exactly, Key, plain, like}
+use Rattle.expr_rules.specs.Asked.{Demand, Wish, Value, Unknown, Exactly, Key, plain}
 use Rattle.expr_rules.specs.Operators.{Part}
-use Rattle.expr_rules.specs.Places.{is_key, placed, stands, shape_of_expr}
+use Rattle.expr_rules.specs.Places.{placed, stands, shape_of_expr}
 use Rattle.typed_program.specs.Shapes.{is_sequence, is_dictionary}
 use Rattle.expr_rules.specs.Then.{and_then, sound, through}
 
@@ -56,14 +56,16 @@ abbrev pub fixed : (Shape → Bool) → Wish → Option Shape
 fixed is (Exactly s) = if is s then Some s else None
 fixed is wish = None
 
--- 9 where the place fixes none, 3 for a key
-abbrev pub empty_code : Wish → ℕ
-empty_code wish = if is_key wish then 3 else 9
+-- 9 where the place fixes none, 3 for a key; where the type that it fixes isn't known, that is told elsewhere
+abbrev pub empty_code : Wish → Option ℕ
+empty_code (Key wanted) = Some 3
+empty_code Unknown = None
+empty_code wish = Some 9
 
 -- a literal without elements or entries
 abbrev pub empty_stands : Option Shape → TypedNode → Spot → Demand → Found Judged
 empty_stands (Some s) n spot demand = stands spot demand None None (gives.Value s) n
-empty_stands None n spot demand = stands spot demand (Some (empty_code demand.wish)) None gives.Unknown n
+empty_stands None n spot demand = stands spot demand (empty_code demand.wish) None gives.Unknown n
 
 abbrev pub empty_sequence : Spot → Demand → Found Judged
 empty_sequence spot demand = empty_stands (fixed is_sequence demand.wish) (made.Sequence []) spot demand
@@ -88,12 +90,24 @@ abbrev pub known_first : Option Shape → Option Shape → Option Shape
 known_first (Some s) other = Some s
 known_first None other = other
 
+-- what is asked behind items of this shape: the first is any value, the others are like it
+abbrev pub like_those : {A : Type 0} → List A → Option Shape → Wish
+like_those items (Some s) = Exactly s
+like_those [] None = Value
+like_those (item ∷ items) None = Unknown
+
+abbrev pub element_wish : Elements → Wish
+element_wish elements = like_those elements.items elements.shape
+
+abbrev pub value_wish : EntryList → Wish
+value_wish entries = like_those entries.entries entries.value
+
 -- elements: the first is any value, the others are like it
 abbrev pub element_of : Elements → Judged → Found Elements
 element_of elements j = sound (record { shape = known_first elements.shape (shape_of_expr j.typed); items = elements.items ++ j.typed ∷ [] })
 
 abbrev pub element_found : Elements → Part → Found Elements
-element_found elements part = and_then (part (plain (like elements.shape))) (element_of elements)
+element_found elements part = and_then (part (plain (element_wish elements))) (element_of elements)
 
 abbrev pub no_elements : Elements
 no_elements = record { shape = None; items = [] }
@@ -128,7 +142,7 @@ abbrev pub key_wish : Option Shape → Wish
 key_wish s = Key s
 
 unfoldable pub value_found : EntryList → Part → Judged → Found EntryList
-value_found entries value key = and_then (value (plain (like entries.value))) (entry_of entries key)
+value_found entries value key = and_then (value (plain (value_wish entries))) (entry_of entries key)
 
 abbrev pub entry_found : EntryList → Pair → Found EntryList
 entry_found entries pair = and_then (pair.key (plain (key_wish entries.key))) (value_found entries pair.value)

@@ -14,7 +14,7 @@ use Rattle.expr_rules.specs.declared.placed.Gives.{Gives}
 use Rattle.expr_rules.specs.declared.placed.Gives.TheVariants as gives
 use Rattle.expr_rules.specs.declared.placed.Root.{Root}
 use Rattle.expr_rules.specs.declared.placed.Judged.{Judged}
-use Rattle.expr_rules.specs.Asked.{Demand, Wish, Statement, Value, Exactly, Key, Event, Sequence, Channel}
+use Rattle.expr_rules.specs.Asked.{Demand, Wish, Statement, Value, Unknown, Exactly, Key, Event, Sequence, Channel}
 use Rattle.typed_program.specs.Shapes.{same, is_event, is_sequence, is_channel}
 use Rattle.expr_rules.specs.Then.{node, and_then, sound, codes_of}
 
@@ -22,6 +22,7 @@ use Rattle.expr_rules.specs.Then.{node, and_then, sound, codes_of}
 abbrev pub fits : Wish → Shape → Bool
 fits Statement s = true
 fits Value s = true
+fits Unknown s = true
 fits (Exactly wanted) s = same wanted s
 fits (Key None) s = true
 fits (Key (Some wanted)) s = same wanted s

@@ -1,5 +1,5 @@
 ghost use Rattle.std.specs.Prelude.{◌≡◌};
-ghost use Rattle.expr_rules.specs.Asked.{demand_of, asking, wanting, plain, negated, receiver, inside, assigned, wish_of, like, asked_by, paths_where, wish_wanted};
+ghost use Rattle.expr_rules.specs.Asked.{demand_of, asking, wanting, plain, negated, receiver, inside, assigned, wish_of, like, fixing, asked_by, paths_where, wish_wanted};
 
 use epl_values::Shape;
 
@@ -10,6 +10,8 @@ pub enum Asks<'a> {
     Statement,
     /// A value of any shape.
     Value,
+    /// A value of one shape that isn't known, since its type isn't declared.
+    Unknown,
     Exactly(&'a Shape),
     Integer,
     Boolean,
@@ -87,12 +89,22 @@ fn paths_where(path: bool) -> Paths
 }
 
 /// What is asked of a value of a shape, if it is known.
-pub fn like(shape: &Option<Shape>) -> Asks<'_>
+fn like(shape: &Option<Shape>) -> Asks<'_>
     ensures { wish_of result ≡ like shape.now }
 {
     match shape {
         Some(shape) => Asks::Exactly(shape),
         None => Asks::Value,
+    }
+}
+
+/// What is asked of a value at a place that fixes its shape, which may not be known.
+pub fn fixing(shape: &Option<Shape>) -> Asks<'_>
+    ensures { wish_of result ≡ fixing shape.now }
+{
+    match shape {
+        Some(shape) => Asks::Exactly(shape),
+        None => Asks::Unknown,
     }
 }
 

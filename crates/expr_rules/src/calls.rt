@@ -2,10 +2,10 @@ ghost use Rattle.std.specs.Prelude.{◌≡◌, IfOk, Some, min, slice_get};
 ghost use Rattle.epl_values.specs.declared.shape.Shape.TheVariants as shape;
 ghost use Rattle.type_table.specs.Found.{Finds};
 ghost use Rattle.type_table.specs.Table.{event_of};
-ghost use Rattle.expr_rules.specs.Asked.{demand_of, like, wish_of};
-ghost use Rattle.expr_rules.specs.Calls.{next_wanted, argument_of, no_arguments, count_code, field_wants, param_wants, fields_at, callback_code, result_given, event_plan, action_plan, missing_plan, plan_of_action, plan_of, action_in, action_named, callee_node, callee_code, call_stands, context_wants, context_start, context_code, context_stands};
+ghost use Rattle.expr_rules.specs.Asked.{demand_of, wish_of};
+ghost use Rattle.expr_rules.specs.Calls.{next_wish, argument_of, no_arguments, count_code, field_wants, param_wants, fields_at, callback_code, result_given, event_plan, action_plan, missing_plan, plan_of_action, plan_of, action_in, action_named, callee_node, callee_code, call_stands, context_wants, context_start, context_code, context_stands};
 
-use crate::asked::{Asks, Need, Paths, like};
+use crate::asked::{Asks, Need, Paths, fixing};
 use crate::placed::{Gives, Judged, lower, stands};
 use epl_values::{Fields, List, Shape, copy_shape};
 use span_text::Spot;
@@ -15,7 +15,7 @@ use type_table::{
 };
 use typed_program::{TypedExprs, TypedNode};
 
-/// What arguments are asked for, in order; `None` is any value.
+/// What arguments are asked for, in order; `None` where that isn't known.
 pub type Wants = List<Option<Shape>>;
 
 /// Arguments so far, what all of them are asked for, and which paths may stand there.
@@ -64,10 +64,10 @@ pub fn no_arguments(alloc: Global, paths: Paths, wants: Wants) -> Arguments
 
 /// What the next argument is asked for.
 pub fn next_asked(arguments: &Arguments) -> Asks<'_>
-    ensures { wish_of result ≡ like (next_wanted arguments.now) }
+    ensures { wish_of result ≡ next_wish arguments.now }
 {
     match arguments.wants.as_slice().get(arguments.items.len()) {
-        Some(shape) => like(shape),
+        Some(shape) => fixing(shape),
         None => Asks::Value,
     }
 }

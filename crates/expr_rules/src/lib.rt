@@ -12,16 +12,16 @@ mod shapes;
 mod steps;
 
 pub use asked::{
-    Asked, Asks, Need, Paths, Wanted, asked_by, assigned, inside, like, need_of, need_wanted,
-    negated, plain, receiver,
+    Asked, Asks, Need, Paths, Wanted, asked_by, assigned, inside, need_of, need_wanted, negated,
+    plain, receiver,
 };
 pub use calls::{
     Arguments, CallPlan, Callee, CalleeKind, Wants, argument_of, call_stands, context_stands,
     context_start, next_asked, no_arguments, param_wants, plan_of,
 };
 pub use literals::{
-    Elements, EntryList, boolean, current, dictionary, element_of, entry_of, integer, key_asked,
-    new_stands, no_elements, no_entries, quoted, sequence,
+    Elements, EntryList, boolean, current, dictionary, element_asked, element_of, entry_of,
+    integer, key_asked, new_stands, no_elements, no_entries, quoted, sequence, value_asked,
 };
 pub use methods::{Called, MethodCall, Reach, called_of};
 pub use names::name_of;

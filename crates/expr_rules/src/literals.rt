@@ -2,10 +2,10 @@ ghost use Rattle.std.specs.Prelude.{◌≡◌, ◌≤◌, [], pos, neg_ℤ, IfOk
 ghost use Rattle.type_table.specs.Found.{Finds};
 ghost use Rattle.expr_rules.specs.Asked.{demand_of, wish_of};
 ghost use Rattle.typed_program.specs.Shapes.{is_sequence, is_dictionary};
-ghost use Rattle.expr_rules.specs.Literals.{number_of, greatest, within, integer_value, integer_found, integer_stands, literal_stands, fixed, empty_code, empty_stands, empty_sequence, empty_dictionary, known_first, element_of, no_elements, sequence_given, full_sequence, sequence_of, entry_of, no_entries, dictionary_given, full_dictionary, dictionary_of, key_wish, new_stands, text_stands, boolean_stands, current_stands};
+ghost use Rattle.expr_rules.specs.Literals.{number_of, greatest, within, integer_value, integer_found, integer_stands, literal_stands, fixed, empty_code, empty_stands, empty_sequence, empty_dictionary, known_first, element_of, no_elements, sequence_given, full_sequence, sequence_of, entry_of, no_entries, dictionary_given, full_dictionary, dictionary_of, key_wish, element_wish, value_wish, new_stands, text_stands, boolean_stands, current_stands};
 
 use crate::asked::{Asks, Need};
-use crate::placed::{Gives, Judged, is_key, placed, stands};
+use crate::placed::{Gives, Judged, placed, stands};
 use crate::shapes::{is_dictionary, is_sequence};
 use epl_values::{List, Shape, Text, copy_shape};
 use span_text::Spot;
@@ -126,10 +126,15 @@ fn fixed_dictionary(alloc: Global, asks: Asks) -> Result<Option<Shape>, AllocErr
     }
 }
 
-fn empty_code(asks: Asks) -> u8
+fn empty_code(asks: Asks) -> Option<u8>
     ensures { result ≡ empty_code (wish_of asks.entry) }
 {
-    if is_key(asks) { 3 } else { 9 }
+    match asks {
+        Asks::AnyKey => Some(3),
+        Asks::Key(_) => Some(3),
+        Asks::Unknown => None,
+        _ => Some(9),
+    }
 }
 
 fn empty_stands(
@@ -145,7 +150,7 @@ fn empty_stands(
         None => stands(
             spot,
             need,
-            Some(empty_code(need.asks)),
+            empty_code(need.asks),
             None,
             Gives::Unknown,
             node,
@@ -189,6 +194,19 @@ pub fn no_elements(alloc: Global) -> Elements
     Elements {
         shape: None,
         items: List::new(alloc),
+    }
+}
+
+/// What the next element is asked for.
+pub fn element_asked(elements: &Elements) -> Asks<'_>
+    ensures { wish_of result ≡ element_wish elements.now }
+{
+    match &elements.shape {
+        Some(shape) => Asks::Exactly(shape),
+        None => match elements.items.len() {
+            0 => Asks::Value,
+            _ => Asks::Unknown,
+        },
     }
 }
 
@@ -315,6 +333,19 @@ pub fn no_entries(alloc: Global) -> EntryList
         key: None,
         value: None,
         entries: List::new(alloc),
+    }
+}
+
+/// What the value of the next entry is asked for.
+pub fn value_asked(entries: &EntryList) -> Asks<'_>
+    ensures { wish_of result ≡ value_wish entries.now }
+{
+    match &entries.value {
+        Some(shape) => Asks::Exactly(shape),
+        None => match entries.entries.len() {
+            0 => Asks::Value,
+            _ => Asks::Unknown,
+        },
     }
 }
 

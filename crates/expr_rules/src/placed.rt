@@ -52,12 +52,13 @@ fn fits(asks: Asks, shape: &Shape) -> bool
         Asks::Channel => is_channel(shape),
         Asks::Statement => true,
         Asks::Value => true,
+        Asks::Unknown => true,
         Asks::AnyKey => true,
     }
 }
 
 /// Whether a key is asked for.
-pub fn is_key(asks: Asks) -> bool
+fn is_key(asks: Asks) -> bool
     ensures { result ≡ is_key (wish_of asks.entry) }
 {
     match asks {

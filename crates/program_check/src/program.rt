@@ -3,18 +3,19 @@ ghost use Rattle.stmt_check.specs.Programs.{Checks};
 ghost use Rattle.typed_program.specs.Typed.{Typed};
 
 use epl_tree::Units;
+use program_laws::accepted_programs_are_typed;
 use std::alloc::Global;
 use type_table::CheckFault;
 use typed_program::Program;
 
 /// The typed program of the files, in their order, or the first of their typing faults with its code, the place of its file
 /// among them and its place there (`docs/TYPES.md`). What is given is well typed: names are numbers of what is there, and
-/// expressions, locals and globals have their shapes; no rule behind a code is broken, and the limits hold.
-#[tactic(auto, using(crate::proofs::Checked::accepted_typed))]
-pub fn check(alloc: Global, units: &Units) -> Result<Program, CheckFault>
-    requires { length units.now ≤ 4294967295 }
-    ensures told { Checks result units.now }
+/// expressions, locals and globals have their shapes; no rule behind a code is broken, and the limits hold. The trees end here.
+pub fn check(alloc: Global, units: Units) -> Result<Program, CheckFault>
+    requires { length units ≤ 4294967295 }
+    ensures told { Checks result units }
     ensures typed { IfOk result Typed }
 {
-    stmt_check::check(alloc, units)
+    accepted_programs_are_typed();
+    stmt_check::check(alloc, &units)
 }

@@ -28,7 +28,7 @@ use Rattle.type_table.specs.declared.table.ResultHead.TheVariants as result
 use Rattle.type_table.specs.declared.scope.SeenKind.TheVariants as kind
 use Rattle.type_table.specs.Types.{type_found}
 use Rattle.expr_check.specs.declared.check.Target.{Target}
-use Rattle.expr_rules.specs.Asked.{Wish, Statement, Exactly, Event, Sequence, Channel, Demand, asked_by, paths_where, like}
+use Rattle.expr_rules.specs.Asked.{Wish, Statement, Exactly, Event, Sequence, Channel, Demand, asked_by, paths_where, like, fixing}
 use Rattle.expr_rules.specs.Calls.{typed_arguments}
 use Rattle.expr_check.specs.Checks.{place_found}
 use Rattle.expr_check.specs.Expressions.{expr_found, part_of as expr_part}
@@ -49,6 +49,10 @@ exactly s = asked (Exactly s) false
 -- a shape where it is known, and else any value
 abbrev pub wanted : Option Shape → Demand
 wanted s = asked (like s) false
+
+-- a value of the shape of its place, though that may not be known
+abbrev pub for_place : Option Shape → Demand
+for_place s = asked (fixing s) false
 
 -- the shape of what is assigned, where it is known
 abbrev pub target_shape : Target → Option Shape
@@ -131,7 +135,7 @@ module _ (table : Table) where
   declare_as_read type name value = given (type_found table type) >>= λ shape. name_read name >>= λ _. reads table (exactly shape) value >>= λ value. local_read kind.Local name.text (Some shape) >>= λ number. pure (made.DeclareAs number value)
 
   abbrev pub assign_read : Place → Expr → Reads State Stmt
-  assign_read place value = looks (λ s. place_found table s.scope place) >>= λ to. reads table (wanted (target_shape to)) value >>= λ value. pure (made.Assign to.place value)
+  assign_read place value = looks (λ s. place_found table s.scope place) >>= λ to. reads table (for_place (target_shape to)) value >>= λ value. pure (made.Assign to.place value)
 
   -- ---- `spawn` and `monitor.`
 

@@ -1,4 +1,4 @@
-ghost use Rattle.std.specs.Prelude.{◌≡◌, ◌++◌, ◌∷◌, ◌||◌, [], is_some, option_map, IfOk, OnOk};
+ghost use Rattle.std.specs.Prelude.{◌≡◌, ◌++◌, ◌∷◌, ◌||◌, ◌&&◌, [], is_some, not, option_map, IfOk, OnOk};
 ghost use Rattle.std.specs.List.{list_any};
 ghost use Rattle.stmt_check.specs.Actions.{name_of, is_global, is_named, is_global_named, globals_before, actions_before, is_param_named, param_codes, param_read, params_found, action_codes, body_around, body_start, body_end, body_read, action_read};
 ghost use Rattle.stmt_check.specs.Bodies.{around_of};
@@ -45,6 +45,13 @@ fn is_global(member: &Member) -> bool
         Member::Global(_) => true,
         Member::Action(_) => false,
     }
+}
+
+/// Whether an action with a result may end without one.
+fn is_bare(has_result: bool, returns: bool) -> bool
+    ensures { result ≡ (has_result && not returns) }
+{
+    has_result && !returns
 }
 
 fn any_named(members: &[Member], name: &str) -> bool
@@ -141,7 +148,7 @@ impl<'t> Reader<'t> {
         if is_special(name) && (decl.params.len() != 0 || decl.result.is_some()) {
             return Err(Refusal::Fault(Fault { code: 5, spot }));
         }
-        if decl.result.is_some() && !ends_with_return(&decl.body) {
+        if is_bare(decl.result.is_some(), ends_with_return(&decl.body)) {
             return Err(Refusal::Fault(Fault { code: 16, spot }));
         }
         Ok(())

@@ -1,7 +1,7 @@
 ghost use Rattle.std.specs.Prelude.{◌≡◌, option_copied};
 ghost use Rattle.expr_rules.specs.Asked.{asking, wish_of};
 ghost use Rattle.stmt_check.specs.Bodies.{action_named};
-ghost use Rattle.stmt_check.specs.Statements.{asked, exactly, wanted, reads, maybe_read};
+ghost use Rattle.stmt_check.specs.Statements.{asked, exactly, wanted, for_place, reads, maybe_read};
 ghost use Rattle.stmt_check.specs.Steps.{Goes};
 
 use crate::state::State;
@@ -79,6 +79,21 @@ impl Body<'_, '_> {
         match shape {
             Some(shape) => self.exactly(shape, tree, state),
             None => self.asked(Asks::Value, false, tree, state),
+        }
+    }
+
+    /// A value of the shape of its place, which may not be known.
+    pub(crate) fn for_place(
+        &self,
+        shape: Option<&Shape>,
+        tree: &Expr,
+        state: &State,
+    ) -> Result<TypedExpr, Refusal>
+        ensures { Goes (reads self.now.table.now (for_place (option_copied shape.entry)) tree.now) state.now state.now result }
+    {
+        match shape {
+            Some(shape) => self.exactly(shape, tree, state),
+            None => self.asked(Asks::Unknown, false, tree, state),
         }
     }
 

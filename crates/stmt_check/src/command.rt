@@ -66,7 +66,7 @@ impl Body<'_, '_> {
         ensures { Goes (assign_read self.now.table.now to.now value.now) state.now state.now result }
     {
         let to = place(self.alloc, self.table, &state.scope, to)?;
-        let value = self.wanted(target_shape(&to), value, state)?;
+        let value = self.for_place(target_shape(&to), value, state)?;
         Ok(Stmt::Assign(to.place, value))
     }
 

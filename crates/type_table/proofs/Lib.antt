@@ -4,5 +4,6 @@ pub mod Deep
 pub mod Filed
 pub mod Order
 pub mod Places
+pub mod Settled
 pub mod Turned
 pub mod Written

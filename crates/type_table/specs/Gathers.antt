@@ -52,12 +52,12 @@ module _ (kinds : List EventDecl) where
   abbrev pub count_of : List FieldDecl → ℕ
   count_of = sum_by (λ f. field_count (whole_width kinds) f.shape)
 
-  -- a field behind others of its event type: its type, then its name
+  -- a field behind others of its event type: its type, then its name, at which it is also told that its type holds a context
+  -- or a listener
   abbrev pub field_faults : List FieldDecl → FieldDecl → List Fault
   field_faults before f =
       (type_by (numbers kinds) f.shape).faults
-      ++ told f.shape.spot (when (holds kinds f.shape) 3)
-      ++ told f.name.spot (when (is_named f.name.text before) 1 ++ when (nat_le 64 (length before) || nat_lt 256 (count_of (before ++ f ∷ []))) 4)
+      ++ told f.name.spot (when (is_named f.name.text before) 1 ++ when (holds kinds f.shape) 3 ++ when (nat_le 64 (length before) || nat_lt 256 (count_of (before ++ f ∷ []))) 4)
 
   abbrev pub fields_faults : List FieldDecl → List FieldDecl → List Fault
   fields_faults before [] = []

@@ -5,6 +5,7 @@ pub mod Table
 pub mod Scopes
 pub mod Kinds
 pub mod Chains
+pub mod Pending
 pub mod Depths
 pub mod Heads
 pub mod Gathers

@@ -52,8 +52,9 @@ pub fn met(kinds: &Kinds<'_>, search: Search<'_>, table: &[bool], written: &Type
     }
 }
 
+/// Whether a chain begins at an event type by what a table says.
 #[tactic(auto, unfolding(crate::specs::Chains::begins))]
-fn begins(kinds: &Kinds<'_>, search: Search<'_>, table: &[bool], event: &EventDecl) -> bool
+pub fn begins(kinds: &Kinds<'_>, search: Search<'_>, table: &[bool], event: &EventDecl) -> bool
     ensures { result ≡ begins search.entry.link (aim_of search.entry.aims search.entry.target.now) kinds.now.names table.now event.now }
 {
     'fields: for field in event.fields.as_slice() {
@@ -85,7 +86,8 @@ fn same(left: &[bool], right: &[bool]) -> bool
     left == right
 }
 
-fn filled(alloc: Global, kinds: &Kinds<'_>, start: bool) -> Result<Vec<bool>, AllocError>
+/// The same of each event type.
+pub fn filled(alloc: Global, kinds: &Kinds<'_>, start: bool) -> Result<Vec<bool>, AllocError>
     ensures { IfOk result (λ v. v.items ≡ map (λ e. start) (trees kinds.now.decls.items)) }
 {
     let mut table = Vec::new(alloc);

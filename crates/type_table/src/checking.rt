@@ -11,7 +11,7 @@ use crate::fault::Refusal;
 use crate::gathered::{Gathered, add_event, add_monitor};
 use crate::heads::has_onload;
 use crate::kinds::Kinds;
-use crate::told::{headed, held, named};
+use crate::told::{headed, named, placed};
 use crate::types::shape_by;
 use epl_tree::{Declaration, EventDecl, FieldDecl, MonitorDecl, TypeExpr};
 use std::alloc::Global;
@@ -73,12 +73,9 @@ fn field(
     ensures { Clears result (field_faults (trees facts.entry.kinds.now.decls.items) before.now field.now) }
 {
     resolved(alloc, facts.kinds, &field.shape)?;
-    held(
-        field.shape.spot,
-        holds(facts.kinds, facts.depths, &field.shape),
-    )?;
     let again = is_named(field.name.text.as_str(), before);
-    named(field.name.spot, again, is_full(before, count))
+    let holds = holds(facts.kinds, facts.depths, &field.shape);
+    placed(field.name.spot, again, holds, is_full(before, count))
 }
 
 #[tactic(auto, using(crate::proofs::Order::parts))]
@@ -108,7 +105,7 @@ fn event(
 {
     let name = event.name.text.as_str();
     let again = before.names.has(name);
-    let past = is_past(alloc, facts.kinds, before.events, name)?;
+    let past = is_past(alloc, facts.kinds, facts.depths, before.events, name)?;
     named(event.name.spot, again, past)?;
     fields(alloc, facts, event.fields.as_slice())?;
     Ok(add_event(alloc, before, name)?)

@@ -10,6 +10,7 @@ mod gathered;
 mod heads;
 mod kinds;
 mod names;
+mod pending;
 mod scope;
 mod table;
 mod told;
@@ -25,4 +26,3 @@ pub use table::{
 };
 pub use types::{holds_link, is_reference, is_scalar, shape_of, short};
 pub use whole::gather;
-

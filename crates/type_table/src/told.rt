@@ -11,16 +11,6 @@ fn refused(code: u8, spot: Spot) -> Result<(), Refusal>
     Err(Refusal::Fault(Fault { code, spot }))
 }
 
-/// Tells a type that holds a context or a listener.
-pub fn held(spot: Spot, holds: bool) -> Result<(), Refusal>
-    ensures { Clears result (told spot (when holds 3)) }
-{
-    if holds {
-        return refused(3, spot);
-    }
-    Ok(())
-}
-
 /// Tells a name that was declared before, or that is past a limit.
 pub fn named(spot: Spot, again: bool, past: bool) -> Result<(), Refusal>
     ensures told { Clears result (told spot (when again 1 ++ when past 4)) }
@@ -29,6 +19,22 @@ pub fn named(spot: Spot, again: bool, past: bool) -> Result<(), Refusal>
 {
     if again {
         return refused(1, spot);
+    }
+    if past {
+        return refused(4, spot);
+    }
+    Ok(())
+}
+
+/// Tells the name of a field that was declared before, whose type holds a context or a listener, or that is past a limit.
+pub fn placed(spot: Spot, again: bool, holds: bool, past: bool) -> Result<(), Refusal>
+    ensures { Clears result (told spot (when again 1 ++ when holds 3 ++ when past 4)) }
+{
+    if again {
+        return refused(1, spot);
+    }
+    if holds {
+        return refused(3, spot);
     }
     if past {
         return refused(4, spot);

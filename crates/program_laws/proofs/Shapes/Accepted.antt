@@ -1,0 +1,12 @@
+-- The program of files in which no fault is found has its shapes.
+use Rattle.std.proofs.Common.{List}
+use Rattle.epl_tree.specs.declared.unit.Unit.{Unit as File}
+use Rattle.typed_program.specs.declared.program.Program.{Program}
+use Rattle.typed_program.specs.Programs.{HasShapes}
+use Rattle.stmt_check.specs.Programs.{IsProgram}
+use Rattle.program_laws.proofs.Shapes.NamedRules.{rules}
+use Rattle.program_laws.proofs.Shapes.Whole.{shapes_by_rules}
+
+-- for every program that is made of files without faults
+pub program_has_shapes : (units : List File) (program : Program) → IsProgram units program → HasShapes program
+program_has_shapes = shapes_by_rules rules
