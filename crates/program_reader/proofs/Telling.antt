@@ -10,11 +10,12 @@ use Rattle.built_forms.specs.Units.{unbuilt}
 use Rattle.program_reader.specs.declared.fault.ProgramFault.{ProgramFault}
 use Rattle.program_reader.specs.declared.fault.ProgramFault.TheVariants.{Lex, Syntax, Typing, Unbuilt, Memory}
 use Rattle.program_reader.specs.Programs.{IsProgram, TellsProgram}
-use Rattle.program_reader.specs.Steps.{AreOnlyTrees, TreesTold, ProgramTold, BuiltTold}
+use Rattle.epl_syntax.specs.Trees.{AreOnlyTrees}
+use Rattle.program_reader.specs.Steps.{TreesRead, ProgramTold, BuiltTold}
 use Rattle.program_reader.proofs.Only.{program_only, fault_apart}
 
 -- an accepted program is built, or this is why not
-pub built_told : (trees : List Tree) (program : Program) → IsTyped trees program → Typed program → (r : Result Program ProgramFault) → BuiltTold trees program r → ProgramTold trees r
+pub built_told : (trees : List Tree) (program : Program) → IsTyped trees program → Typed program → (r : Result Program ProgramFault) → BuiltTold (unbuilt trees) program r → ProgramTold trees r
 built_told trees program is typed (Ok p) t = (subst (IsTyped trees) (sym t.0) is, subst Typed (sym t.0) typed, t.1)
 built_told trees program is typed (Err (Lex file spot)) t = absurd t
 built_told trees program is typed (Err (Syntax file spot)) t = absurd t
@@ -22,7 +23,7 @@ built_told trees program is typed (Err (Typing code file spot)) t = absurd t
 built_told trees program is typed (Err (Unbuilt file spot)) t = (program, is, t)
 built_told trees program is typed (Err Memory) t = absurd t
 
-pub trees_refused : (texts : List (List ℕ)) (why : ProgramFault) → TreesTold texts (Err why) → TellsProgram texts (Err why)
+pub trees_refused : (texts : List (List ℕ)) (why : ProgramFault) → TreesRead texts (Err why) → TellsProgram texts (Err why)
 trees_refused texts (Lex file spot) t = (t.0, λ q k. t.1 k.trees k.are_trees)
 trees_refused texts (Syntax file spot) t = (t.0, λ q k. t.1 k.trees k.are_trees)
 trees_refused texts (Typing code file spot) t = absurd t
