@@ -43,12 +43,7 @@ fn tree_in(alloc: Global, place: u32, bytes: &Bytes) -> Result<Unit, SyntaxFault
 }
 
 /// Trees of files and that of one more behind them. Where it has none they are let go.
-fn with_file(
-    alloc: Global,
-    trees: Units,
-    place: u32,
-    bytes: &Bytes,
-) -> Result<Units, SyntaxFault>
+fn with_file(alloc: Global, trees: Units, place: u32, bytes: &Bytes) -> Result<Units, SyntaxFault>
     requires { length bytes.now < 4294967295 }
     ensures { MoreTold trees place bytes.now result }
 {
