@@ -2,7 +2,7 @@ use Rattle.std.proofs.Common.{◌≡◌, ◌++◌, drop, map}
 use Rattle.value_rules.specs.Defaults.{default_of}
 use Rattle.value_steps.specs.Orderly.{AreOrderly}
 use Rattle.path_bases.specs.Locals.{values_in}
-use Rattle.tree_walker.proofs.run.with_defaults.Given as goal
+use Rattle.call_walker.proofs.calls.with_defaults.Given as goal
 
 abbrev pub invariant-loop-shape : goal.invariant-loop-shape
 invariant-loop-shape l = record {

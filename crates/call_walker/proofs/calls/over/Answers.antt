@@ -1,8 +1,8 @@
 use Rattle.path_bases.specs.Locals.{values_in}
 use Rattle.walk_laws.proofs.Telling.{tells_err, tells_memory}
 use Rattle.std.proofs.Common.{refl}
-use Rattle.tree_walker.proofs.Statements.{over_told, over_stopped}
-use Rattle.tree_walker.proofs.run.over.Goals as goal
+use Rattle.call_walker.proofs.Statements.{over_told, over_stopped}
+use Rattle.call_walker.proofs.calls.over.Goals as goal
 
 pub returns-in_err-locals-clause-means : goal.returns-in_err-locals-clause-means
 returns-in_err-locals-clause-means g c = λ outer. tells_err _ c.from_residual.ensures.1 (tells_memory _ _ _ refl)

@@ -7,7 +7,7 @@ use Rattle.path_bases.specs.Locals.{values_in}
 use Rattle.path_bases.specs.Tells.{Tells}
 use Rattle.walk_laws.proofs.Telling.{tells_err}
 use Rattle.walk_laws.proofs.Entering.{tells_too_deep, tells_enter_unpaid, tells_enter_none, tells_enter, tells_enter_err}
-use Rattle.tree_walker.proofs.run.+enter.Goals as goal
+use Rattle.call_walker.proofs.calls.+enter.Goals as goal
 
 pub returns-then-depth-eq0-clause-means : goal.returns-then-depth-eq0-clause-means
 returns-then-depth-eq0-clause-means g t c = λ outer. rw c.from.ensures (tells_too_deep c.args.program.now c.args.depth c.args.number (values_in c.args.arguments) _ _ c.if-depth-eq0.true)

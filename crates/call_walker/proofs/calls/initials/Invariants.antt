@@ -2,7 +2,7 @@ use Rattle.std.proofs.Common.{[], drop}
 use Rattle.body_meaning.specs.Acts.{initials_from}
 use Rattle.value_steps.specs.Orderly.{AreOrderly}
 use Rattle.walk_rules.specs.Ran.{Leads}
-use Rattle.tree_walker.proofs.run.initials.Given as goal
+use Rattle.call_walker.proofs.calls.initials.Given as goal
 
 abbrev pub invariant-loop-number : goal.invariant-loop-number
 invariant-loop-number g l = record {

@@ -1,5 +1,5 @@
-use Rattle.tree_walker.proofs.Locals.{defaults_next, defaults_orderly}
-use Rattle.tree_walker.proofs.run.with_defaults.Goals as goal
+use Rattle.call_walker.proofs.Locals.{defaults_next, defaults_orderly}
+use Rattle.call_walker.proofs.calls.with_defaults.Goals as goal
 
 pub loop-shape-preserved : goal.loop-shape-preserved
 loop-shape-preserved c = record {

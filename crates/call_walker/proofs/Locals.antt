@@ -5,7 +5,7 @@ use Rattle.epl_values.specs.declared.shape.Shape.{Shape}
 use Rattle.epl_values.specs.declared.shape.EventShape.{EventShape}
 use Rattle.epl_values.specs.declared.value.Value.{Value}
 use Rattle.value_rules.specs.Defaults.{default_of}
-use Rattle.value_shapes.proofs.Defaults.{default_orderly}
+use Rattle.expr_walker.proofs.Orders.{default_orderly}
 use Rattle.value_steps.specs.Orderly.{IsOrderly, AreOrderly}
 use Rattle.value_steps.proofs.Kept.{all_joined}
 use Rattle.walk_rules.proofs.Leading.{next_mapped}

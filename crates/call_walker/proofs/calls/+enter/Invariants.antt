@@ -1,4 +1,4 @@
-use Rattle.tree_walker.proofs.run.+enter.Given as goal
+use Rattle.call_walker.proofs.calls.+enter.Given as goal
 
 abbrev pub decreases-enter : goal.decreases-enter
 decreases-enter g l = l.depth

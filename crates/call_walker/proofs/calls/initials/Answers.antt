@@ -2,9 +2,9 @@ use Rattle.std.proofs.Common.{arith, sym, subst}
 use Rattle.value_steps.specs.Orderly.{AreOrderly}
 use Rattle.walk_rules.proofs.Leading.{leads_start}
 use Rattle.walk_laws.proofs.Telling.{tells_err}
-use Rattle.tree_walker.proofs.Initials.{initials_pass, initials_more, initials_break, initials_all}
-use Rattle.tree_walker.proofs.run.initials.Goals as goal
-use Rattle.tree_walker.proofs.run.initials.Goals.{in-Some+in_ok-value, in_default}
+use Rattle.call_walker.proofs.Initials.{initials_pass, initials_more, initials_break, initials_all}
+use Rattle.call_walker.proofs.calls.initials.Goals as goal
+use Rattle.call_walker.proofs.calls.initials.Goals.{in-Some+in_ok-value, in_default}
 
 pub loop-number-init : goal.loop-number-init
 loop-number-init g c = record { leads = leads_start _ _ _; order = c.requires.globals }

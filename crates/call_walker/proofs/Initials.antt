@@ -17,7 +17,7 @@ use Rattle.path_bases.specs.Tells.{Tells}
 use Rattle.walk_laws.proofs.Lending.{frame_set_global}
 use Rattle.walk_laws.proofs.Telling.{tells_walks}
 use Rattle.walk_laws.proofs.Beginning.{initials_without, initials_step, initials_stop, initials_end}
-use Rattle.tree_walker.proofs.Statements.{frame_by}
+use Rattle.call_walker.proofs.Statements.{frame_by}
 
 -- a run without locals
 bare : {A : Type 0} {m : M A} {r : Result A Stop} {t t1 : Told} (globals globals' : List Value) (gots : List Got) → gots ≡ [] → Tells m t (frame_of globals gots) t1 (frame_of globals' gots) r → Tells m t (frame_by globals []) t1 (frame_by globals' []) r
