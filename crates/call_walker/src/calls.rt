@@ -69,7 +69,7 @@ fn enter<H: Host>(
 }
 
 /// No value counts as no context.
-fn or_none(value: Option<Value>) -> Value
+pub fn or_none(value: Option<Value>) -> Value
     requires { IsOrderlyAnswer value }
     ensures is { result ≡ or_none value }
     ensures order { IsOrderly result }
@@ -100,7 +100,7 @@ fn with_defaults<'x>(
 }
 
 /// The statements of a body over its arguments and further locals.
-fn over<
+pub fn over<
     H: Host,
     F: Fn(Global, &Program, u16, u16, Gots<'_>, &mut Values, &mut H) -> Result<Value, Stop> + Copy,
 >(
