@@ -1,6 +1,6 @@
 -- Runs of expressions, one step at a time: what an arm or a turn of a loop owes.
 use Rattle.std.proofs.Common.{◌≡◌, ℕ, Bool, true, false, ◌+◌, ◌≤◌, ◌<◌, List, [], ◌∷◌, ◌++◌, length, map, drop, get_or, Option, Some, None, Result, Ok, Err, refl, sym, ap, subst, ◌∙◌}
-use Rattle.std.specs.Prelude.{IfOk, IfErr, IfSome, IsErrAnd, not}
+use Rattle.std.specs.Prelude.{IfOk, IfErr, IsErrAnd, not}
 use Rattle.epl_values.specs.declared.shape.EventShape.{EventShape}
 use Rattle.epl_values.specs.declared.value.Value.{Value}
 use Rattle.typed_program.specs.declared.expression.TypedExpr.{TypedExpr, out-TypedExpr, fold_out-TypedExpr}
@@ -22,7 +22,7 @@ use Rattle.walk_rules.specs.declared.stop.Stop.TheVariants.{Memory}
 use Rattle.walk_rules.specs.Ran.{Walks, Leads}
 use Rattle.walk_rules.proofs.Forms.{postfix_is}
 use Rattle.walk_rules.proofs.Leading.{leads_same}
-use Rattle.walk_rules.proofs.Running.{append_nil, walks_pure}
+use Rattle.walk_rules.proofs.Running.{walks_pure}
 use Rattle.value_steps.specs.Orderly.{IsOrderly, AreOrderly, IsOrderlyMove, AreOrderlyMoves}
 use Rattle.path_bases.specs.declared.base.Base.{Base}
 use Rattle.path_bases.specs.declared.locals.Got.{Got}

@@ -1,5 +1,5 @@
 -- What the parts of a body mean where so many more calls may nest.
-use Rattle.std.specs.Prelude.{ℕ, List, Option, Some, None, Result, Ok, Err, map}
+use Rattle.std.specs.Prelude.{ℕ, List, Result, Ok, Err, map}
 use Rattle.epl_values.specs.declared.value.Value.{Value}
 use Rattle.typed_program.specs.declared.expression.TypedExpr.{TypedExpr}
 use Rattle.typed_program.specs.declared.expression.TypedEntry.{TypedEntry}

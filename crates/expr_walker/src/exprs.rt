@@ -1,4 +1,4 @@
-ghost use Rattle.std.specs.Prelude.{◌≡◌, [], map, Some, IfOk, IfErr, IfSome};
+ghost use Rattle.std.specs.Prelude.{◌≡◌, ◌&&◌, [], map, Some, IfOk, IfErr, IfSome};
 ghost use Rattle.epl_values.specs.Order.{KeysAscend};
 ghost use Rattle.body_meaning.specs.Expressions.{or_from, and_from, xor_from, links_from, entries_behind, reach_from, default_by, Place, meaning_of};
 ghost use Rattle.typed_program.specs.declared.expression.TypedExpr.{out-TypedExpr};
@@ -10,9 +10,11 @@ ghost use Rattle.body_meaning.specs.Acts.{enter};
 ghost use Rattle.body_meaning.specs.Runs.{all, all_behind, pure};
 ghost use Rattle.body_meaning.specs.Statements.{move_of, moves_in};
 ghost use Rattle.value_steps.specs.Orderly.{IsOrderly, AreOrderly, AreOrderlyPairs, IsOrderlyMove, AreOrderlyMoves};
+ghost use Rattle.calm_exprs.specs.Calm.{is_calm, are_calm};
 ghost use Rattle.path_bases.specs.Bases.{Stands, IsOrderlyBase, Finds};
 ghost use Rattle.path_bases.specs.Locals.{values_in, frame_of, got_value};
 ghost use Rattle.path_bases.specs.Tells.{Tells};
+ghost use Rattle.expr_walker.specs.Leaving.{is_from_global};
 ghost use Rattle.expr_walker.specs.Means.{value_by, reach_by, link_by, entry_by, compared_by, element_by, found_by, called_by, item_by, key_by, lent_value, lent_values};
 
 use action_host::{Fault, Host};
@@ -273,7 +275,7 @@ impl<
         ensures kept { AreOrderly globals.new }
         ensures order { (v : _) → Stands globals.old left.entry v → IfOk result IsOrderly }
     {
-        let left = held_unless(self.alloc, calm(right), left, globals)?;
+        let left = held_unless(self.alloc, leaves(right, &left), left, globals)?;
         let right = self.base(right, globals, host)?;
         compare(comparison, &left, &right, globals)
     }
@@ -457,7 +459,7 @@ impl<
         ensures kept { AreOrderly globals.new }
         ensures order { IfOk result (λ b. IsOrderlyBase b) }
     {
-        let base = held_unless(self.alloc, calm(e), base, globals)?;
+        let base = held_unless(self.alloc, leaves(e, &base), base, globals)?;
         let to = self.item(e, globals, host)?;
         stepped(self.alloc, base, to, globals)
     }
@@ -479,7 +481,7 @@ impl<
         ensures kept { AreOrderly globals.new }
         ensures order { IfOk result (λ b. IsOrderlyBase b) }
     {
-        let base = held_unless(self.alloc, calm(e), base, globals)?;
+        let base = held_unless(self.alloc, leaves(e, &base), base, globals)?;
         let to = self.key(e, globals, host)?;
         stepped(self.alloc, base, to, globals)
     }
@@ -502,9 +504,9 @@ impl<
         ensures kept { AreOrderly globals.new }
         ensures order { IfOk result (λ b. IsOrderlyBase b) }
     {
-        let still = all_calm(arguments.as_slice());
-        let base = held_unless(self.alloc, still, base, globals)?;
-        let values = self.values(arguments.as_slice(), globals, host)?;
+        let arguments = arguments.as_slice();
+        let base = held_unless(self.alloc, leave(arguments, &base), base, globals)?;
+        let values = self.values(arguments, globals, host)?;
         let types = &self.program.types;
         let value = method(self.alloc, types, host, name, &base, values, globals)?;
         Ok(Base::Own(value))
@@ -599,6 +601,27 @@ impl<
             _ => Ok(List::new(self.alloc)),
         }
     }
+}
+
+/// Whether a base is what is reached from a global; any other goes on standing for its value while the globals change.
+fn is_from_global(base: &Base<'_>) -> bool
+    ensures { result ≡ is_from_global base.now }
+{
+    matches!(base, Base::Global(..))
+}
+
+/// Whether a base is what is reached from a global, and an expression leaves the globals as they are.
+fn leaves(e: &TypedExpr, base: &Base<'_>) -> bool
+    ensures { result ≡ (is_from_global base.now && is_calm e.now) }
+{
+    is_from_global(base) && calm(e)
+}
+
+/// The same of several expressions.
+fn leave(es: &[TypedExpr], base: &Base<'_>) -> bool
+    ensures { result ≡ (is_from_global base.now && are_calm es.now) }
+{
+    is_from_global(base) && all_calm(es)
 }
 
 /// A base as an argument.

@@ -12,7 +12,7 @@ use Rattle.body_meaning.specs.Acts.{act, come_to, end_by}
 use Rattle.walk_rules.specs.declared.stop.Stop.TheVariants.{Halted}
 use Rattle.walk_rules.specs.Ran.{state_of, outcome_of, Ran, Walks}
 use Rattle.path_bases.specs.Tells.{Tells}
-use Rattle.tree_walker.specs.Comes.{Comes}
+use Rattle.body_runs.specs.Comes.{Comes}
 
 -- the variables of a body before it begins
 abbrev pub begun_over : List Value → Frame

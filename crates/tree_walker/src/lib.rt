@@ -2,5 +2,7 @@
 #![tactic(auto)]
 
 mod run;
+mod walker;
 
 pub use run::run_action;
+pub use walker::TreeWalker;

@@ -21,7 +21,6 @@ use Rattle.value_steps.proofs.Kept.{all_joined, with_orderly}
 use Rattle.walk_rules.proofs.Forms as form
 use Rattle.walk_rules.proofs.Leading.{leads_start, leads_same, all_end}
 use Rattle.walk_rules.proofs.Operating.{or_out, and_out, or_end, and_end, xor_end, links_end, entries_end}
-use Rattle.calm_exprs.specs.Calm.{are_calm}
 use Rattle.path_bases.specs.Locals.{values_in, frame_of, global_in, local_in}
 use Rattle.walk_laws.proofs.Telling.{tells_as, tells_err, tells_bind, tells_bind_err, tells_then_pure, tells_pure, tells_is, tells_given, tells_given_err, tells_look, tells_memory, tells_walks, tells_two, tells_left_err, leads_tells}
 use Rattle.walk_laws.proofs.Finding.{finds_as, finds_err, finds_own, finds_mapped, finds_mapped_stop, finds_bind, founds_bind, founds_settle}
@@ -29,6 +28,7 @@ use Rattle.walk_laws.proofs.Reaching.{path_value_is, reaching_step, reaching_sto
 use Rattle.walk_laws.proofs.Holding.{held_value, held_mapped, held_values, unheld}
 use Rattle.walk_laws.proofs.Looping.{all_told, all_told_stop, or_told, or_told_stop, and_told, and_told_stop, xor_told, xor_told_stop, links_told, links_told_operand_stop, links_told_stop, entries_told, entries_told_key_stop, entries_told_stop}
 use Rattle.walk_laws.proofs.Lending.{all_lent}
+use Rattle.expr_walker.specs.Leaving.{is_from_global}
 use Rattle.expr_walker.specs.Means.{value_by, reach_by, link_by, entry_by, compared_by, element_by, found_by, called_by}
 use Rattle.expr_walker.proofs.Orders.{variable_orderly, negated_orderly, compared_orderly, made_context_orderly, current_orderly}
 use Rattle.expr_walker.proofs.Steps.{within_same, item_same, past_same, known_told, differ_told, lent_err, lent_orderly}
@@ -215,46 +215,46 @@ pub argument-returns-clause-means : goal.argument-returns-clause-means
 argument-returns-clause-means g t c = founds_settle c.in_ok-base.ensures.means c.lend.ensures.means
 
 pub compared-returns-in_err-left-clause-means : goal.compared-returns-in_err-left-clause-means
-compared-returns-in_err-left-clause-means g t c = λ v s. tells_err _ c.from_residual.ensures.1 (unheld (compared_by c.args.self.now.program.now c.args.self.now.depth c.args.comparison v c.args.right.now) c.calm.result c.args.globals.now v (g.H.Host.told c.args.host.now) (frame_of c.args.globals.now c.args.self.now.locals.now) (c.in_err-left.ensures.holds v s))
+compared-returns-in_err-left-clause-means g t c = λ v s. tells_err _ c.from_residual.ensures.1 (unheld (compared_by c.args.self.now.program.now c.args.self.now.depth c.args.comparison v c.args.right.now) c.leaves.result c.args.globals.now v (g.H.Host.told c.args.host.now) (frame_of c.args.globals.now c.args.self.now.locals.now) (c.in_err-left.ensures.holds v s))
 
 pub compared-returns-in_err-right-clause-means : goal.compared-returns-in_err-right-clause-means
 compared-returns-in_err-right-clause-means g t c = λ v s. tells_err _ c.from_residual-in_err-right.ensures.1 (tells_bind_err _ c.in_err-right.ensures.means)
 
 pub compared-returns-clause-means : goal.compared-returns-clause-means
-compared-returns-clause-means g t c = λ v s. let a = c.in_ok-right.ensures.means in founds_bind (λ w. pure (compared c.args.comparison v w)) a (tells_is _ _ (c.compare.ensures v a.value (held_value c.args.self.now.program.now.types (enter c.args.self.now.program.now c.args.self.now.depth) c.args.right.now c.calm.result v c.in_ok-left.left (c.in_ok-left.ensures.holds v s) c.calm.ensures a.tells) a.stands))
+compared-returns-clause-means g t c = λ v s. let a = c.in_ok-right.ensures.means in founds_bind (λ w. pure (compared c.args.comparison v w)) a (tells_is _ _ (c.compare.ensures v a.value (held_value c.args.self.now.program.now.types (enter c.args.self.now.program.now c.args.self.now.depth) c.args.right.now c.leaves.result (is_from_global c.args.left) v c.in_ok-left.left (c.in_ok-left.ensures.holds v s) c.leaves.ensures a.tells) a.stands))
 
 pub compared-returns-clause-order : goal.compared-returns-clause-order
-compared-returns-clause-order g t c = λ v s. let a = c.in_ok-right.ensures.means in compared_orderly c.args.comparison v a.value c.compare.result (c.compare.ensures v a.value (held_value c.args.self.now.program.now.types (enter c.args.self.now.program.now c.args.self.now.depth) c.args.right.now c.calm.result v c.in_ok-left.left (c.in_ok-left.ensures.holds v s) c.calm.ensures a.tells) a.stands)
+compared-returns-clause-order g t c = λ v s. let a = c.in_ok-right.ensures.means in compared_orderly c.args.comparison v a.value c.compare.result (c.compare.ensures v a.value (held_value c.args.self.now.program.now.types (enter c.args.self.now.program.now c.args.self.now.depth) c.args.right.now c.leaves.result (is_from_global c.args.left) v c.in_ok-left.left (c.in_ok-left.ensures.holds v s) c.leaves.ensures a.tells) a.stands)
 
 pub element-returns-in_err-base-clause-means : goal.element-returns-in_err-base-clause-means
-element-returns-in_err-base-clause-means g t c = λ v s. finds_err _ c.from_residual.ensures.1 (unheld (element_by c.args.self.now.program.now c.args.self.now.depth v c.args.e.now) c.calm.result c.args.globals.now v (g.H.Host.told c.args.host.now) (frame_of c.args.globals.now c.args.self.now.locals.now) (c.in_err-base.ensures.holds v s))
+element-returns-in_err-base-clause-means g t c = λ v s. finds_err _ c.from_residual.ensures.1 (unheld (element_by c.args.self.now.program.now c.args.self.now.depth v c.args.e.now) c.leaves.result c.args.globals.now v (g.H.Host.told c.args.host.now) (frame_of c.args.globals.now c.args.self.now.locals.now) (c.in_err-base.ensures.holds v s))
 
 pub element-returns-in_err-to-clause-means : goal.element-returns-in_err-to-clause-means
 element-returns-in_err-to-clause-means g t c = λ v s. finds_err _ c.from_residual-in_err-to.ensures.1 (finds_mapped_stop ((value_by c.args.self.now.program.now c.args.self.now.depth) c.args.e.now) item_move (λ y. given (part y v)) c.in_err-to.ensures.means)
 
 pub element-returns-clause-means : goal.element-returns-clause-means
-element-returns-clause-means g t c = λ v s. let a = c.in_ok-to.ensures.means in finds_mapped ((value_by c.args.self.now.program.now c.args.self.now.depth) c.args.e.now) item_move (λ y. given (part y v)) _ _ c.stepped.result a (c.stepped.ensures.means v (held_mapped c.args.self.now.program.now.types (enter c.args.self.now.program.now c.args.self.now.depth) c.args.e.now item_move c.calm.result v c.in_ok-base.base (c.in_ok-base.ensures.holds v s) c.calm.ensures a) _ (values_in c.args.self.now.locals.now))
+element-returns-clause-means g t c = λ v s. let a = c.in_ok-to.ensures.means in finds_mapped ((value_by c.args.self.now.program.now c.args.self.now.depth) c.args.e.now) item_move (λ y. given (part y v)) _ _ c.stepped.result a (c.stepped.ensures.means v (held_mapped c.args.self.now.program.now.types (enter c.args.self.now.program.now c.args.self.now.depth) c.args.e.now item_move c.leaves.result (is_from_global c.args.base) v c.in_ok-base.base (c.in_ok-base.ensures.holds v s) c.leaves.ensures a) _ (values_in c.args.self.now.locals.now))
 
 pub entry-returns-in_err-base-clause-means : goal.entry-returns-in_err-base-clause-means
-entry-returns-in_err-base-clause-means g t c = λ v s. finds_err _ c.from_residual.ensures.1 (unheld (found_by c.args.self.now.program.now c.args.self.now.depth v c.args.e.now) c.calm.result c.args.globals.now v (g.H.Host.told c.args.host.now) (frame_of c.args.globals.now c.args.self.now.locals.now) (c.in_err-base.ensures.holds v s))
+entry-returns-in_err-base-clause-means g t c = λ v s. finds_err _ c.from_residual.ensures.1 (unheld (found_by c.args.self.now.program.now c.args.self.now.depth v c.args.e.now) c.leaves.result c.args.globals.now v (g.H.Host.told c.args.host.now) (frame_of c.args.globals.now c.args.self.now.locals.now) (c.in_err-base.ensures.holds v s))
 
 pub entry-returns-in_err-to-clause-means : goal.entry-returns-in_err-to-clause-means
 entry-returns-in_err-to-clause-means g t c = λ v s. finds_err _ c.from_residual-in_err-to.ensures.1 (finds_mapped_stop ((value_by c.args.self.now.program.now c.args.self.now.depth) c.args.e.now) key_move (λ y. given (part y v)) c.in_err-to.ensures.means)
 
 pub entry-returns-clause-means : goal.entry-returns-clause-means
-entry-returns-clause-means g t c = λ v s. let a = c.in_ok-to.ensures.means in finds_mapped ((value_by c.args.self.now.program.now c.args.self.now.depth) c.args.e.now) key_move (λ y. given (part y v)) _ _ c.stepped.result a (c.stepped.ensures.means v (held_mapped c.args.self.now.program.now.types (enter c.args.self.now.program.now c.args.self.now.depth) c.args.e.now key_move c.calm.result v c.in_ok-base.base (c.in_ok-base.ensures.holds v s) c.calm.ensures a) _ (values_in c.args.self.now.locals.now))
+entry-returns-clause-means g t c = λ v s. let a = c.in_ok-to.ensures.means in finds_mapped ((value_by c.args.self.now.program.now c.args.self.now.depth) c.args.e.now) key_move (λ y. given (part y v)) _ _ c.stepped.result a (c.stepped.ensures.means v (held_mapped c.args.self.now.program.now.types (enter c.args.self.now.program.now c.args.self.now.depth) c.args.e.now key_move c.leaves.result (is_from_global c.args.base) v c.in_ok-base.base (c.in_ok-base.ensures.holds v s) c.leaves.ensures a) _ (values_in c.args.self.now.locals.now))
 
 pub called-returns-in_err-base-clause-means : goal.called-returns-in_err-base-clause-means
-called-returns-in_err-base-clause-means g t c = λ v s. finds_err _ c.from_residual.ensures.1 (unheld ((called_by c.args.self.now.program.now c.args.self.now.depth c.args.name v) c.args.arguments.now) c.all_calm-still.result c.args.globals.now v (g.H.Host.told c.args.host.now) (frame_of c.args.globals.now c.args.self.now.locals.now) (c.in_err-base.ensures.holds v s))
+called-returns-in_err-base-clause-means g t c = λ v s. finds_err _ c.from_residual.ensures.1 (unheld ((called_by c.args.self.now.program.now c.args.self.now.depth c.args.name v) c.args.arguments.now) c.leave.result c.args.globals.now v (g.H.Host.told c.args.host.now) (frame_of c.args.globals.now c.args.self.now.locals.now) (c.in_err-base.ensures.holds v s))
 
 pub called-returns-in_err-values-clause-means : goal.called-returns-in_err-values-clause-means
-called-returns-in_err-values-clause-means g t c = λ v s. finds_err _ c.from_residual-in_err-values.ensures.1 (tells_as (ap (called_by c.args.self.now.program.now c.args.self.now.depth c.args.name v) (sym c.as_slice-2.ensures)) (tells_bind_err _ c.in_err-values.ensures.means))
+called-returns-in_err-values-clause-means g t c = λ v s. finds_err _ c.from_residual-in_err-values.ensures.1 (tells_as (ap (called_by c.args.self.now.program.now c.args.self.now.depth c.args.name v) (sym c.as_slice-arguments.ensures)) (tells_bind_err _ c.in_err-values.ensures.means))
 
 pub called-returns-in_err-value-clause-means : goal.called-returns-in_err-value-clause-means
-called-returns-in_err-value-clause-means g t c = λ v s. finds_err _ c.from_residual-in_err-value.ensures.1 (tells_as (ap (called_by c.args.self.now.program.now c.args.self.now.depth c.args.name v) (sym c.as_slice-2.ensures)) (tells_bind _ c.in_ok-values.ensures.means (tells_walks (c.in_err-value.ensures.means v (held_values c.args.self.now.program.now.types (enter c.args.self.now.program.now c.args.self.now.depth) c.as_slice-2.result.now c.all_calm-still.result v c.in_ok-base.base (c.in_ok-base.ensures.holds v s) (c.all_calm-still.ensures ∙ ap are_calm (c.as_slice.ensures ∙ sym c.as_slice-2.ensures)) c.in_ok-values.ensures.means) _))))
+called-returns-in_err-value-clause-means g t c = λ v s. finds_err _ c.from_residual-in_err-value.ensures.1 (tells_as (ap (called_by c.args.self.now.program.now c.args.self.now.depth c.args.name v) (sym c.as_slice-arguments.ensures)) (tells_bind _ c.in_ok-values.ensures.means (tells_walks (c.in_err-value.ensures.means v (held_values c.args.self.now.program.now.types (enter c.args.self.now.program.now c.args.self.now.depth) c.as_slice-arguments.result.now c.leave.result (is_from_global c.args.base) v c.in_ok-base.base (c.in_ok-base.ensures.holds v s) c.leave.ensures c.in_ok-values.ensures.means) _))))
 
 pub called-returns-clause-means : goal.called-returns-clause-means
-called-returns-clause-means g t c = λ v s. finds_own (tells_as (ap (called_by c.args.self.now.program.now c.args.self.now.depth c.args.name v) (sym c.as_slice-2.ensures)) (tells_bind _ c.in_ok-values.ensures.means (tells_walks (c.in_ok-value.ensures.means v (held_values c.args.self.now.program.now.types (enter c.args.self.now.program.now c.args.self.now.depth) c.as_slice-2.result.now c.all_calm-still.result v c.in_ok-base.base (c.in_ok-base.ensures.holds v s) (c.all_calm-still.ensures ∙ ap are_calm (c.as_slice.ensures ∙ sym c.as_slice-2.ensures)) c.in_ok-values.ensures.means) _))))
+called-returns-clause-means g t c = λ v s. finds_own (tells_as (ap (called_by c.args.self.now.program.now c.args.self.now.depth c.args.name v) (sym c.as_slice-arguments.ensures)) (tells_bind _ c.in_ok-values.ensures.means (tells_walks (c.in_ok-value.ensures.means v (held_values c.args.self.now.program.now.types (enter c.args.self.now.program.now c.args.self.now.depth) c.as_slice-arguments.result.now c.leave.result (is_from_global c.args.base) v c.in_ok-base.base (c.in_ok-base.ensures.holds v s) c.leave.ensures c.in_ok-values.ensures.means) _))))
 
 pub item-returns-in_err-value-clause-means : goal.item-returns-in_err-value-clause-means
 item-returns-in_err-value-clause-means g t c = tells_err _ c.from_residual.ensures.1 (tells_bind_err _ c.in_err-value.ensures.means)

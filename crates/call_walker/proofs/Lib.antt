@@ -1,0 +1,4 @@
+pub mod Locals
+pub mod Statements
+pub mod Initials
+pub mod Begun
