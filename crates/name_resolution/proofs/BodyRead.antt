@@ -60,6 +60,7 @@ use Rattle.name_resolution.proofs.Steps.{StepReads, Walked, walked_is, before_pl
 use Rattle.name_resolution.proofs.Steps.{StepsRead}
 use Rattle.name_resolution.proofs.Trees.{expr_reads, step_reads}
 use Rattle.name_resolution.proofs.Claims.{is_called, first_by, by_seen, meaning_mapped, agrees_more, agrees_at, Grown, grown_same, extends_same, Matches, Ready, Fits, Holds, Claim, Still, claim_looks, claim_bind, claim_behind, claim_pure, claim_as}
+pub use Rattle.name_resolution.specs.Laws.{Fit}
 
 -- the names of a part are among those that are known
 abbrev pub Within : Names → Names → Type 0
@@ -76,8 +77,6 @@ shape_same None = refl
 layer_of : (v : Variable) → variable_layer (variable_form v) ≡ v
 layer_of (var.Global n) = refl
 layer_of (var.Local n) = refl
-
-pub use Rattle.name_resolution.specs.Laws.{Fit}
 
 module _ (around : Around) (sites : List Site) (monitor : ℕ) (named : Names) (callbacks : ℕ) (body : Body) (fit : Fit around monitor callbacks body) where
   abbrev C : {A : Type 0} → (A → Here → Here → Type 0) → State → Found (After State A) → Type 0

@@ -22,6 +22,7 @@ use Rattle.name_resolution.specs.Names.{Named, Meant, meaning_of}
 use Rattle.name_resolution.specs.Statements.{Here}
 use Rattle.name_resolution.proofs.Sure.{Sure, no_both, no_told}
 use Rattle.name_resolution.proofs.Agreeing.{Agrees, meant_by}
+pub use Rattle.name_resolution.specs.Laws.{Matches, Ready, Fits}
 
 -- ---- the first of a name
 
@@ -36,21 +37,21 @@ item_behind : {A : Type 0} (x : A) (xs : List A) (b : Bool) (k : ℕ) → item_a
 item_behind x xs true k = let e : 1 + k ≡ suc k = omega arith in ap (slice_get (x ∷ xs)) e
 item_behind x xs false k = refl
 
-zero_lt : (n : ℕ) → nat_lt 0 (suc n) ≡ true
+pub zero_lt : (n : ℕ) → nat_lt 0 (suc n) ≡ true
 zero_lt n = lt-ltb 0 (suc n) (omega arith)
 
 lt_by : (k n : ℕ) (b : Bool) → nat_lt k n ≡ b → nat_lt (1 + k) (suc n) ≡ b
 lt_by k n true is = grind (arith, nat_tests)
 lt_by k n false is = grind (arith, nat_tests)
 
-lt_more : (k n : ℕ) → nat_lt (1 + k) (suc n) ≡ nat_lt k n
+pub lt_more : (k n : ℕ) → nat_lt (1 + k) (suc n) ≡ nat_lt k n
 lt_more k n = lt_by k n (nat_lt k n) refl
 
 item_here : {A : Type 0} (x : A) (xs : List A) (b : Bool) (k n : ℕ) → item_at (x ∷ xs) (cond (nat_lt (cond (not b) (1 + k) 0) (suc n)) (Some (cond (not b) (1 + k) 0)) None) ≡ cond b (Some x) (item_at xs (cond (nat_lt k n) (Some k) None))
 item_here x xs true k n = ap (λ (c : Bool). item_at (x ∷ xs) (cond c (Some 0) None)) (zero_lt n)
 item_here x xs false k n = ap (λ (c : Bool). item_at (x ∷ xs) (cond c (Some (1 + k)) None)) (lt_more k n) ∙ item_behind x xs (nat_lt k n) k
 
-item_first : {A : Type 0} (q : A → Bool) (xs : List A) → item_at xs (position q xs) ≡ first_by q xs
+pub item_first : {A : Type 0} (q : A → Bool) (xs : List A) → item_at xs (position q xs) ≡ first_by q xs
 item_first q [] = refl
 item_first q (x ∷ xs) = item_here x xs (q x) (position_or_len q xs) (length xs) ∙ ap (cond (q x) (Some x)) (item_first q xs)
 
@@ -62,7 +63,7 @@ seen_first scope name = item_first (λ s. bytes_eq s.name name) scope.names
 abbrev pub by_seen : Seen → Named
 by_seen s = record { name = s.name; meant = meant_by s }
 
-abbrev or_else : {A : Type 0} → Option A → Option A → Option A
+abbrev pub or_else : {A : Type 0} → Option A → Option A → Option A
 or_else (Some x) o = Some x
 or_else None o = o
 
@@ -128,8 +129,6 @@ pub extends_on : {A : Type 0} {a b c : List A} → Extends a b → Extends b c �
 extends_on {a = a} {b = b} {c = c} h k = record { long = let p = h.long in let q = k.long in omega arith; at = λ i x e. k.at i x (h.at i x e) }
 
 -- ---- claims
-
-pub use Rattle.name_resolution.specs.Laws.{Matches, Ready, Fits}
 
 module _ (finished : List Site) (monitor : ℕ) where
   pub record Holds {A : Type 0} (named : Names) (P : A → Here → Here → Type 0) (h : Here) (x : A) (t : State) : Type 0 where
