@@ -52,7 +52,7 @@ module _ (around : Around) (sites : List Site) (monitor callbacks : ℕ) (body :
   all_read [] = tt
   all_read (t ∷ ts) = (let r = stmt_reads around sites monitor t in r.claims every callbacks body fit (λ name h. refl), all_read ts)
 
-  row_claim : (ts : List Tree) (s : State) → Claim sites monitor every callbacks (λ ys h k. RowIs around sites h ts ys k) s (row_read body (map stmt_part ts) s)
+  pub row_claim : (ts : List Tree) (s : State) → Claim sites monitor every callbacks (λ ys h k. RowIs around sites h ts ys k) s (row_read body (map stmt_part ts) s)
   row_claim ts s = subst (λ (ms : List (Reads State Stmt)). Claim sites monitor every callbacks (λ ys h k. RowIs around sites h ts ys k) s (each ms s)) (sym (map_map around sites monitor stmt_part (λ p. p.reads body) ts))
       (each_claim around sites monitor every callbacks body fit (λ t. (stmt_part t).reads body) ts (all_read ts) s)
 

@@ -18,3 +18,6 @@ pub mod Callbacks
 pub mod StatementsRead
 pub mod StatementTrees
 pub mod Accepted
+pub mod Heads
+pub mod MembersRead
+pub mod FilesRead

@@ -5,3 +5,4 @@ pub mod Events
 pub mod Statements
 pub mod Agreeing
 pub mod Laws
+pub mod Units
