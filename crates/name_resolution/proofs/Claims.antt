@@ -83,7 +83,7 @@ pub meaning_behind : (xs ys : List Named) (name : List ℕ) → meaning_of (xs +
 meaning_behind [] ys name = refl
 meaning_behind (x ∷ xs) ys name = behind_by (bytes_eq x.name name) x.meant (meaning_of xs name) (meaning_of ys name) (meaning_of (xs ++ ys) name) (meaning_behind xs ys name)
 
-first_behind : {A : Type 0} (q : A → Bool) (xs ys : List A) → first_by q (xs ++ ys) ≡ or_else (first_by q xs) (first_by q ys)
+pub first_behind : {A : Type 0} (q : A → Bool) (xs ys : List A) → first_by q (xs ++ ys) ≡ or_else (first_by q xs) (first_by q ys)
 first_behind q [] ys = refl
 first_behind q (x ∷ xs) ys = behind_by (q x) x (first_by q xs) (first_by q ys) (first_by q (xs ++ ys)) (first_behind q xs ys)
 

@@ -49,11 +49,11 @@ use Rattle.name_resolution.proofs.Claims.{Extends, extends_same, extends_on}
 use Rattle.name_resolution.proofs.Heads.{Heads, action_is, action_none}
 use Rattle.name_resolution.proofs.MembersRead.{Head, Went, went, last_at, extends_push, spawned_at}
 
-no_map : {A B : Type 0} (f : A → B) (xs : List A) → map f xs ≡ [] → xs ≡ []
+pub no_map : {A B : Type 0} (f : A → B) (xs : List A) → map f xs ≡ [] → xs ≡ []
 no_map f [] h = refl
 no_map f (x ∷ xs) h = cc
 
-no_cause : (b : Bool) (code : ℕ) → cause b code ≡ [] → b ≡ false
+pub no_cause : (b : Bool) (code : ℕ) → cause b code ≡ [] → b ≡ false
 no_cause true code h = cc
 no_cause false code h = refl
 
@@ -237,7 +237,7 @@ names_same : (number_of : List ℕ → Option ℕ) (kinds : List EventDecl) → 
 names_same number_of [] = refl
 names_same number_of (e ∷ kinds) = ap (λ (l : List (List ℕ)). e.name.text ∷ l) (names_same number_of kinds)
 
-same_numbers : (units : List File) (table : Table) → IsTable units table → numbers (kinds_of units) ≡ event_of table
+pub same_numbers : (units : List File) (table : Table) → IsTable units table → numbers (kinds_of units) ≡ event_of table
 same_numbers units table is = ap number_in (sym (ap (λ (ts : List EventShape). map (λ (t : EventShape). t.name) ts) is.types ∙ names_same (numbers (kinds_of units)) (kinds_of units)))
 
 pub program_monitors : (units : List File) (program : Program) → IsProgram units program → MonitorsAre program 0 0 (monitors_in (declarations_in units)) × (length program.monitors ≡ length (monitors_in (declarations_in units)))

@@ -47,7 +47,7 @@ some_by true x o r h = refl
 some_by false x None r h = h
 some_by false x (Some n) r h = h
 
-place_some : {A : Type 0} (q : A → Bool) (xs : List A) → is_some (position q xs) ≡ is_some (first_by q xs)
+pub place_some : {A : Type 0} (q : A → Bool) (xs : List A) → is_some (position q xs) ≡ is_some (first_by q xs)
 place_some q [] = refl
 place_some q (x ∷ xs) = ap is_some (place_step q x xs) ∙ some_by (q x) x (position q xs) (first_by q xs) (place_some q xs)
 

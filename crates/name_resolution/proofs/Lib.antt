@@ -21,3 +21,4 @@ pub mod Accepted
 pub mod Heads
 pub mod MembersRead
 pub mod FilesRead
+pub mod KindsRead

@@ -145,9 +145,10 @@ module _ (around : Around) (names : List Named) where
 
   link_made : (l : Link) (made : Linked) (x : TypedExpr) → LinkReads l made → ExprIs around names (out-Link l).operand x → LinkOf l (roll-TypedLink record { operator = made.operator; operand = x })
   link_made l made x r h =
-      let out = sym (out-roll-TypedLink (record { operator = made.operator; operand = x })) in
-      (subst (λ (y : TypedLink-F TypedNode TypedSuffixNode TypedEntry TypedExpr TypedLink TypedSuffix). y.operator ≡ (out-Link l).operator) out r.operator,
-      subst (λ (y : TypedLink-F TypedNode TypedSuffixNode TypedEntry TypedExpr TypedLink TypedSuffix). ExprIs around names (out-Link l).operand y.operand) out h)
+      let out = sym (out-roll-TypedLink (record { operator = made.operator; operand = x })) in (
+        subst (λ (y : TypedLink-F TypedNode TypedSuffixNode TypedEntry TypedExpr TypedLink TypedSuffix). y.operator ≡ (out-Link l).operator) out r.operator,
+        subst (λ (y : TypedLink-F TypedNode TypedSuffixNode TypedEntry TypedExpr TypedLink TypedSuffix). ExprIs around names (out-Link l).operand y.operand) out h,
+      )
 
   link_is : (spot : Spot) (l : Link) (made : Linked) (c : LinkChain) → LinkReads l made → Sure (OneLink l c) (link_found spot c made)
   unfolding link_of

@@ -71,9 +71,10 @@ module _ (around : Around) (sites : List Site) (monitor : ℕ) where
         let known : Agrees (h.names ++ map by_seen xs) inner (event_names e) = agrees_fewer (h.names ++ map by_seen xs) inner (event_names e) named w (agrees_more h.names s.scope inner xs (map by_seen xs) named wider (λ name. meaning_mapped xs name) m.names) in
         let names = h.names ++ map by_seen xs in
         let thus = terms_stay around names body.table s.scope inner fit.types (fit.acts inner (wide.own ∙ r.own) (wide.actions ∙ r.actions)) e known false false [] nothing_yet (record { few = omega arith; limit = omega arith }) in
-        let stays = thus.where_clear none in
-        (subst (λ (ys : List Seen). BoundAre (map by_seen ys) (map bound_local ys)) (sym more) (bound_are wide.more wide.bound),
-        stays.good (term_found body.table s.scope e).part.operands (record { more = []; are = sym (append-nil _) }))
+        let stays = thus.where_clear none in (
+          subst (λ (ys : List Seen). BoundAre (map by_seen ys) (map bound_local ys)) (sym more) (bound_are wide.more wide.bound),
+          stays.good (term_found body.table s.scope e).part.operands (record { more = []; are = sym (append-nil _) }),
+        )
 
     listening : (l : Listening) → Within (event_names (out-Listening l).event) named → (takes : Bool) (s : State) (h : Here) → on_codes body takes s ≡ [] → (term_found body.table s.scope (out-Listening l).event).faults ≡ [] → Ready sites monitor s → Matches named h s → Opened l callbacks body s (term_found body.table s.scope (out-Listening l).event).part h
     listening l w takes s h codes none r m =
@@ -134,13 +135,16 @@ module _ (around : Around) (sites : List Site) (monitor : ℕ) where
           sites = longer s term c.sites;
           holds = λ h none fits r m. record {
             after = h;
-            good = (refl, λ o.
-                let le = c.sites.long in
-                let few = o.few in
-                let begins = start_matches h s part.names (bound_in body.table s.scope (out-Listening l).event) (agrees_fewer h.names s.scope part.names named within_named m.names) in
-                let held = c.holds (starts h.names (map local_of (captured_in part.names s.scope.names)) (map by_seen (bound_in body.table s.scope (out-Listening l).event))) none (inner_fits s term (omega arith) le fits) (record { own = r.own; actions = r.actions }) begins in
-                let done = held.matches in
-                rule.listen (site_there s term few le fits) o.bound_so o.resolved held.good refl (sym done.locals));
+            good = (
+              refl,
+              λ o.
+                  let le = c.sites.long in
+                  let few = o.few in
+                  let begins = start_matches h s part.names (bound_in body.table s.scope (out-Listening l).event) (agrees_fewer h.names s.scope part.names named within_named m.names) in
+                  let held = c.holds (starts h.names (map local_of (captured_in part.names s.scope.names)) (map by_seen (bound_in body.table s.scope (out-Listening l).event))) none (inner_fits s term (omega arith) le fits) (record { own = r.own; actions = r.actions }) begins in
+                  let done = held.matches in
+                  rule.listen (site_there s term few le fits) o.bound_so o.resolved held.good refl (sym done.locals),
+            );
             matches = record { names = m.names; next = m.next; locals = m.locals };
           };
         }

@@ -196,9 +196,10 @@ module _ (around : Around) (names : List Named) where
   before_plain changed d (suc n) = refl
 
   postfix_made : (e : Expr) (us : List Suffix) (j : Judged) (walk : Walk) → ExprIs around names e j.typed → Walked us (walk_start j) walk → StepsAre around names (shape_of walk.first) us walk.suffixes × ExprIs around names e walk.first
-  postfix_made e us j walk h w =
-      (subst (λ (x : TypedExpr). StepsAre around names (shape_of x) us walk.suffixes) (sym w.first) (subst (λ (ys : List TypedSuffix). StepsAre around names (shape_of j.typed) us ys) (sym w.behind) w.good),
-      subst (λ (x : TypedExpr). ExprIs around names e x) (sym w.first) h)
+  postfix_made e us j walk h w = (
+    subst (λ (x : TypedExpr). StepsAre around names (shape_of x) us walk.suffixes) (sym w.first) (subst (λ (ys : List TypedSuffix). StepsAre around names (shape_of j.typed) us ys) (sym w.behind) w.good),
+    subst (λ (x : TypedExpr). ExprIs around names e x) (sym w.first) h,
+  )
 
   pub postfix_is : (changed : Demand → Bool) (e : Expr) (us : List Suffix) (first : Part) (part : Suffix → Step) (spot : Spot) → Reads around names (form_of e) first → StepsRead part us → Reads around names (tree.Postfix e us) (λ d. postfix_found (changed d) first (map part us) spot d)
   unfolding postfix_rest postfix_of

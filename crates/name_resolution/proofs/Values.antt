@@ -178,9 +178,10 @@ module _ (around : Around) (names : List Named) where
 
   entry_made : (t : Entry) (key value : TypedExpr) → ExprIs around names (out-Entry t).key key → ExprIs around names (out-Entry t).value value → EntryOf t (roll-TypedEntry record { key = key; value = value })
   entry_made t key value h k =
-      let out = sym (out-roll-TypedEntry (record { key = key; value = value })) in
-      (subst (λ (y : TypedEntry-F TypedNode TypedSuffixNode TypedEntry TypedExpr TypedLink TypedSuffix). ExprIs around names (out-Entry t).key y.key) out h,
-      subst (λ (y : TypedEntry-F TypedNode TypedSuffixNode TypedEntry TypedExpr TypedLink TypedSuffix). ExprIs around names (out-Entry t).value y.value) out k)
+      let out = sym (out-roll-TypedEntry (record { key = key; value = value })) in (
+        subst (λ (y : TypedEntry-F TypedNode TypedSuffixNode TypedEntry TypedExpr TypedLink TypedSuffix). ExprIs around names (out-Entry t).key y.key) out h,
+        subst (λ (y : TypedEntry-F TypedNode TypedSuffixNode TypedEntry TypedExpr TypedLink TypedSuffix). ExprIs around names (out-Entry t).value y.value) out k,
+      )
 
   entry_is : (t : Entry) (pair : Pair) (c : EntryList) → PairReads t pair → Sure (OneEntry t c) (entry_found c pair)
   unfolding value_found entry_of

@@ -6,3 +6,4 @@ pub mod Statements
 pub mod Agreeing
 pub mod Laws
 pub mod Units
+pub mod Resolves

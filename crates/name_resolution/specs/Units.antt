@@ -32,6 +32,11 @@ abbrev pub declarations_in : List File → List Declaration
 declarations_in [] = []
 declarations_in (u ∷ us) = u.declarations ++ declarations_in us
 
+abbrev pub events_in : List Declaration → List EventDecl
+events_in [] = []
+events_in (declaration.Event e ∷ ds) = e ∷ events_in ds
+events_in (declaration.Monitor m ∷ ds) = events_in ds
+
 abbrev pub monitors_in : List Declaration → List MonitorDecl
 monitors_in [] = []
 monitors_in (declaration.Event e ∷ ds) = monitors_in ds
@@ -50,6 +55,20 @@ actions_in (member.Action a ∷ ms) = a ∷ actions_in ms
 abbrev pub names_of : List ActionDecl → List (List ℕ)
 names_of [] = []
 names_of (a ∷ others) = a.name.text ∷ names_of others
+
+-- ---- event types
+
+pub record FieldIs (types : List EventShape) (d : FieldDecl) (f : Field) : Type 0 where
+  pub name : f.name ≡ d.name.text
+  pub shape : TypeIs types d.shape f.shape
+
+pub data FieldsAre (types : List EventShape) : List FieldDecl → List Field → Type 0 where
+  no_fields : FieldsAre types [] []
+  a_field : {d : FieldDecl} {ds : List FieldDecl} {f : Field} {fs : List Field} → FieldIs types d f → FieldsAre types ds fs → FieldsAre types (d ∷ ds) (f ∷ fs)
+
+pub data EventsAre (types : List EventShape) : List EventDecl → List EventShape → Type 0 where
+  no_events : EventsAre types [] []
+  an_event : {d : EventDecl} {ds : List EventDecl} {t : EventShape} {ts : List EventShape} → t.name ≡ d.name.text → FieldsAre types d.fields t.fields → EventsAre types ds ts → EventsAre types (d ∷ ds) (t ∷ ts)
 
 -- ---- actions
 

@@ -1,18 +1,10 @@
-ghost use Rattle.name_resolution.specs.Laws.{ExpressionsResolve, EventsResolve, StatementsResolve};
+ghost use Rattle.std.specs.Prelude.{List};
+ghost use Rattle.epl_tree.specs.declared.unit.Unit.{Unit};
+ghost use Rattle.stmt_check.specs.Programs.{IsProgram};
+ghost use Rattle.typed_program.specs.declared.program.Program.{Program};
+ghost use Rattle.name_resolution.specs.Resolves.{Resolves};
 
-/// The typed expression of an expression without faults is the expression with its names resolved.
-pub fn expressions_resolve()
-    ensures { ExpressionsResolve }
-{}
-
-/// The term of an event expression without faults, with what is evaluated at its `on`, is the event expression with its names
-/// resolved.
-pub fn event_expressions_resolve()
-    ensures { EventsResolve }
-{}
-
-/// The typed statements of statements in a row without faults, with the sites of their listeners, are the statements with their
-/// names resolved, and what they declare is visible behind them alone.
-pub fn statements_resolve()
-    ensures { StatementsResolve }
+/// The typed program of files in which no fault is found is their trees with names resolved.
+pub fn accepted_programs_resolve()
+    ensures { (units : List Unit) (program : Program) → IsProgram units program → Resolves units program }
 {}

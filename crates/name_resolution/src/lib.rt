@@ -1,6 +1,6 @@
-//! That typed programs are trees with names resolved: the relation, and the laws that it holds where no fault is found.
+//! That typed programs are trees with names resolved: the relation, and the law that it holds of every accepted program.
 #![tactic(auto)]
 
 mod laws;
 
-pub use laws::{event_expressions_resolve, expressions_resolve, statements_resolve};
+pub use laws::accepted_programs_resolve;
