@@ -1,0 +1,314 @@
+-- What is evaluated at an `on`, durations and operands.
+use Rattle.std.proofs.Common.{◌≡◌, ℕ, zero, suc, ◌+◌, ◌-◌, ◌*◌, ◌==◌, ◌<◌, ◌≤◌, pos, min, nat_le, Bool, true, false, ◌&&◌, not, if◌then◌else◌, List, [], ◌∷◌, ◌++◌, length, take, drop, slice_get, Option, Some, None, refl, subst, sym, ap, ◌∙◌, arith, append_assoc}
+use Rattle.std.proofs.lemmas.Bool.Decides.{nat_tests}
+use Rattle.std.proofs.lemmas.List.{length-append, append-nil}
+use Rattle.std.specs.List.{list_any, list_all, position}
+use Rattle.span_text.specs.declared.spot.Spot.{Spot}
+use Rattle.epl_values.specs.declared.shape.Shape.{Shape}
+use Rattle.epl_values.specs.declared.shape.Shape.TheVariants as shape
+use Rattle.epl_tree.specs.declared.event.Duration.{Duration}
+use Rattle.epl_tree.specs.declared.event.DurationNode.{DurationNode}
+use Rattle.epl_tree.specs.declared.event.DurationNode.TheVariants as duration
+use Rattle.epl_tree.specs.declared.expression.Expr.{Expr, out-Expr}
+use Rattle.epl_tree.specs.declared.expression.ExprNode.TheOpen as tree
+use Rattle.epl_tree.specs.declared.expression.Link.{Link, out-Link}
+use Rattle.epl_tree.specs.declared.expression.Operator.{Operator}
+use Rattle.epl_tree.specs.declared.expression.Operator.TheVariants as operator
+use Rattle.typed_program.specs.declared.expression.TypedEntry.{TypedEntry}
+use Rattle.typed_program.specs.declared.expression.TypedExpr.{TypedExpr, TypedExpr-F, roll-TypedExpr, out-TypedExpr, out-roll-TypedExpr}
+use Rattle.typed_program.specs.declared.expression.TypedLink.{TypedLink, out-TypedLink}
+use Rattle.typed_program.specs.declared.expression.TypedNode.{TypedNode, out-TypedNode}
+use Rattle.typed_program.specs.declared.expression.TypedNode.TheOpen as typed
+use Rattle.typed_program.specs.declared.expression.TypedNode.TheVariants as made
+use Rattle.typed_program.specs.declared.expression.TypedSuffix.{TypedSuffix}
+use Rattle.typed_program.specs.declared.expression.TypedSuffixNode.{TypedSuffixNode}
+use Rattle.typed_program.specs.declared.term.Operand.{Operand}
+use Rattle.typed_program.specs.declared.term.Operand.TheVariants as operand
+use Rattle.type_table.specs.declared.scope.Scope.{Scope}
+use Rattle.type_table.specs.declared.table.Table.{Table}
+use Rattle.type_table.specs.Found.{Found, told}
+use Rattle.expr_rules.specs.declared.placed.Judged.{Judged}
+use Rattle.expr_rules.specs.Then.{and_then}
+use Rattle.expr_check.specs.Expressions.{part_of, typed_of, expr_found}
+use Rattle.listener_check.specs.declared.sofar.Sofar.{Sofar}
+use Rattle.listener_check.specs.declared.operand.Reached.{Reached}
+use Rattle.listener_check.specs.declared.value.Naming.{Naming}
+use Rattle.listener_check.specs.declared.value.Naming.TheVariants as naming
+use Rattle.listener_check.specs.Bound.{is_own}
+use Rattle.listener_check.specs.Durations.{number_after, point_in, decimal_by, decimal_found, digits_found, digit_codes, tenths_of, length_found, duration_read}
+use Rattle.listener_check.specs.Durations.{first_digit as first_of, tenths as tenths_made}
+use Rattle.listener_check.specs.Limits.{short, sum_codes, with_sum, sum_read}
+use Rattle.listener_check.specs.Names.{mentions}
+use Rattle.listener_check.specs.Operands.{Layer, path_in, placed, bound, signed, last_of, added_operand, links_operand, sum_layer, sum_operand, given_operand, operand_of, is_integer, named_operand, operand_read}
+use Rattle.listener_check.specs.Operands.{layer_of as typed_layer}
+use Rattle.listener_check.specs.Values.{layer_of, is_path, is_path_of, links_naming, form_layer, form_of, naming_of, sign_naming, duration_naming, is_astray, exactly, named_value}
+use Rattle.listener_check.specs.Went.{Went, went, behind, given, ◌>>=◌}
+use Rattle.stmt_check.specs.Captures.{Names, expr_names, duration_node, duration_names}
+use Rattle.name_resolution.specs.Names.{Named, Around}
+use Rattle.name_resolution.specs.Expressions.{Form, number_behind, number, typed_form, ExprIs}
+use Rattle.name_resolution.specs.Expressions.{form_of as form}
+use Rattle.name_resolution.specs.Events.{Inside, Given, DurationIs, OperandIs, first_digit, tenths_at, tenths}
+use Rattle.name_resolution.specs.Events as rule
+use Rattle.name_resolution.proofs.Sure.{Sure, sure_sound, sure_then, sure_as, no_told, no_both, no_if}
+use Rattle.name_resolution.proofs.Thus.{Thus, thus_went, thus_then, thus_behind, thus_given, thus_weaker}
+use Rattle.name_resolution.proofs.Agreeing.{Agrees, ActionsAgree}
+use Rattle.name_resolution.proofs.Judging.{Is, plain_at}
+use Rattle.name_resolution.proofs.Trees.{expr_reads}
+
+-- ---- what stands in front
+
+-- fewer operands than were counted
+pub record Room (s : Sofar) : Type 0 where
+  pub few : length s.operands ≤ s.sums
+  pub limit : s.sums ≤ 192
+
+pub record Spare (s : Sofar) : Type 0 where
+  pub fewer : length s.operands < s.sums
+  pub limit : s.sums ≤ 192
+
+-- the operands so far are the first of these
+pub record Ends (t : Sofar) (operands : List TypedExpr) : Type 0 where
+  pub more : List TypedExpr
+  pub are : operands ≡ t.operands ++ more
+
+pub record Behind (s t : Sofar) : Type 0 where
+  pub room : Room t
+  pub ends : Ends s t.operands
+
+ends_on : (s t : Sofar) (operands : List TypedExpr) → Ends s t.operands → Ends t operands → Ends s operands
+ends_on s t operands h k = record { more = h.more ++ k.more; are = k.are ∙ ap (λ (l : List TypedExpr). l ++ k.more) h.are ∙ append_assoc s.operands h.more k.more }
+
+behind_on : (s t u : Sofar) → Behind s t → Behind t u → Behind s u
+behind_on s t u h k = record { room = k.room; ends = ends_on s t u.operands h.ends k.ends }
+
+pub behind_same : (s t : Sofar) → t.operands ≡ s.operands → Room t → Behind s t
+behind_same s t same room = record { room = room; ends = record { more = []; are = same ∙ sym (append-nil s.operands) } }
+
+behind_summed : (s t : Sofar) → Behind (with_sum s) t → Behind s t
+behind_summed s t h = let e = h.ends in record { room = h.room; ends = record { more = e.more; are = e.are } }
+
+module _ (around : Around) (names : List Named) where
+  abbrev pub within : List TypedExpr → Inside
+  within operands = record { around = around; names = names; operands = operands }
+
+  -- what holds of a part, among the operands that are there in the end
+  pub record Stays {A : Type 0} (P : Inside → A → Type 0) (s : Sofar) (x : A) (t : Sofar) : Type 0 where
+    pub behind : Behind s t
+    pub good : (operands : List TypedExpr) → Ends t operands → P (within operands) x
+
+  -- a part, and what is read behind it
+  pub stays_then : {A B : Type 0} (P : Inside → A → Type 0) (Q : Inside → B → Type 0) (w : Went A) (n : A → Sofar → Went B) (s : Sofar) → Thus (Stays P s) w
+      → ((x : A) (t : Sofar) → Room t → Thus (Stays (λ i y. P i x → Q i y) t) (n x t)) → Thus (Stays Q s) (w >>= n)
+  stays_then P Q w n s first next = thus_then (Stays P s) (Stays Q s) w n first (λ x t h.
+      thus_weaker (Stays (λ i y. P i x → Q i y) t) (Stays Q s) (n x t) (next x t h.behind.room) (λ y u k. record {
+        behind = behind_on s t u h.behind k.behind;
+        good = λ operands ends. k.good operands ends (h.good operands (ends_on t u operands k.behind.ends ends));
+      }))
+
+  pub stays_went : {A : Type 0} (P : Inside → A → Type 0) (x : A) (s : Sofar) → Room s → ((i : Inside) → i ≡ within i.operands → P i x) → Thus (Stays P s) (went x s)
+  stays_went P x s room h = thus_went (Stays P s) x s (record { behind = behind_same s s refl room; good = λ operands ends. h (within operands) refl })
+
+  pub stays_behind : {A : Type 0} (P : Inside → A → Type 0) (spot : Spot) (codes : List ℕ) (w : Went A) (s : Sofar) → (codes ≡ [] → Thus (Stays P s) w) → Thus (Stays P s) (behind (told spot codes) w)
+  stays_behind P spot codes w s h = thus_behind (Stays P s) (told spot codes) w (λ none. h (no_told spot codes none))
+
+  -- ---- what is evaluated at the `on`
+
+  spare : (s : Sofar) → Room s → sum_codes s ≡ [] → Spare (with_sum s)
+  spare s r none =
+      let below = no_if (nat_le 192 s.sums) 4 none in
+      let few = r.few in
+      record { fewer = omega arith; limit = grind (arith, nat_tests) }
+
+  roomy : (s : Sofar) → Spare s → Room s
+  roomy s r = let fewer = r.fewer in record { few = omega arith; limit = r.limit }
+
+  -- an operand or duration is counted, and then read
+  pub summed : {A : Type 0} (P : Inside → A → Type 0) (spot : Spot) (n : Unit {0} → Sofar → Went A) (s : Sofar) → Room s → (Spare (with_sum s) → Thus (Stays P (with_sum s)) (n tt (with_sum s))) → Thus (Stays P s) (sum_read spot s >>= n)
+  unfolding sum_read
+  summed P spot n s r next =
+      thus_then (λ x t. (t ≡ with_sum s) × Spare (with_sum s)) (Stays P s) (behind (told spot (sum_codes s)) (went tt (with_sum s))) n
+      (thus_behind (λ x t. (t ≡ with_sum s) × Spare (with_sum s)) (told spot (sum_codes s)) (went tt (with_sum s)) (λ none. thus_went (λ x t. (t ≡ with_sum s) × Spare (with_sum s)) tt (with_sum s) (refl, spare s r (no_told spot (sum_codes s) none))))
+      (λ x t h. subst (λ (u : Sofar). Thus (Stays P s) (n tt u)) (sym h.0) (thus_weaker (Stays P (with_sum s)) (Stays P s) (n tt (with_sum s)) (next h.1) (λ y u k. record { behind = behind_summed s u k.behind; good = k.good })))
+
+  last_at : (xs : List TypedExpr) (x : TypedExpr) (more : List TypedExpr) → slice_get ((xs ++ x ∷ []) ++ more) (length xs) ≡ Some x
+  last_at [] x more = refl
+  last_at (y ∷ xs) x more = last_at xs x more
+
+  placed_at : (s : Sofar) (x : TypedExpr) (operands : List TypedExpr) → Spare s → Ends (record s { operands = s.operands ++ x ∷ [] }) operands → slice_get operands (short (length s.operands)) ≡ Some x
+  placed_at s x operands r ends =
+      let fewer = r.fewer in let limit = r.limit in
+      let small : short (length s.operands) ≡ length s.operands = omega arith in
+      ap (slice_get operands) small ∙ ap (λ (l : List TypedExpr). slice_get l (length s.operands)) ends.are ∙ last_at s.operands x ends.more
+
+  -- a value by its place
+  pub record PlacedAs (P : TypedExpr → Type 0) (i : Inside) (at : ℕ) : Type 0 where
+    pub value : TypedExpr
+    pub there : slice_get i.operands at ≡ Some value
+    pub good : P value
+
+  pub placed_stays : (P : TypedExpr → Type 0) (x : TypedExpr) (s : Sofar) → Spare s → P x → Thus (Stays (PlacedAs P) s) (placed x s)
+  unfolding placed
+  placed_stays P x s r p =
+      let long = length-append s.operands (x ∷ []) in
+      let fewer = r.fewer in
+      thus_went (Stays (PlacedAs P) s) (short (length s.operands)) (record s { operands = s.operands ++ x ∷ [] }) (record {
+        behind = record { room = record { few = omega arith; limit = r.limit }; ends = record { more = x ∷ []; are = refl } };
+        good = λ operands ends. record { value = x; there = placed_at s x operands r ends; good = p };
+      })
+
+  module _ (table : Table) (scope inner : Scope) (types : table.types ≡ around.types) (acts : ActionsAgree table inner around.actions around.first) where
+    abbrev Known : Names → Type 0
+    Known named = Agrees names inner named
+
+    -- an expression in the scope of the operands
+    value_sure : (n : Naming) (s : Shape) (e : Expr) → Known (expr_names e) → Sure (λ x. ExprIs around names e x) (named_value table inner n s e)
+    unfolding named_value
+    value_sure n s e known =
+        sure_then (Is around names e) (λ x. ExprIs around names e x) (part_of table inner e (exactly s (is_astray n))) typed_of (plain_at around names e (part_of table inner e) (exactly s (is_astray n)) refl (expr_reads table inner around names types acts e known))
+        (λ j is. sure_sound (λ x. ExprIs around names e x) j.typed is)
+
+    abbrev Valued : Expr → TypedExpr → Type 0
+    Valued e x = ExprIs around names e x
+
+    given_by : (e : Expr) (operands : List TypedExpr) (at : ℕ) → PlacedAs (Valued e) (within operands) at → Given (within operands) e at
+    given_by e operands at p = record { value = p.value; there = p.there; resolved = p.good }
+
+    -- ---- durations
+
+    numbers : (n : ℕ) (digits : List ℕ) → number_after n digits ≡ number_behind n digits
+    numbers n [] = refl
+    numbers n (digit ∷ digits) = numbers (n * 10 + (digit - 48)) digits
+
+    first_same : (digits : List ℕ) → first_of digits ≡ first_digit digits
+    first_same [] = refl
+    first_same (digit ∷ digits) = refl
+
+    tenths_same : (whole rest : List ℕ) → tenths_of whole rest ≡ number whole * 10 + first_digit rest
+    tenths_same whole rest = ap (λ (n : ℕ). n * 10 + first_of rest) (numbers 0 whole) ∙ ap (λ (n : ℕ). number whole * 10 + n) (first_same rest)
+
+    made_tenths : (n m : ℕ) → n ≡ m → typed_form (tenths_made n) ≡ typed.Tenths (pos m)
+    made_tenths n m is = ap (λ (e : TypedExpr-F TypedNode TypedSuffixNode TypedEntry TypedExpr TypedLink TypedSuffix). out-TypedNode e.node) (out-roll-TypedExpr (record { shape = Some shape.Integer; node = made.Tenths (pos n) })) ∙ made.outs-Tenths (pos n) ∙ ap (λ (k : ℕ). typed.Tenths (pos k)) is
+
+    decimal_is : (spot : Spot) (text : List ℕ) (o : Option ℕ) → typed_form (decimal_by spot text o).part ≡ typed.Tenths (pos (tenths_at text o))
+    unfolding digits_found
+    decimal_is spot text (Some at) = made_tenths (tenths_of (take at text) (drop (at + 1) text)) (tenths_at text (Some at)) (tenths_same (take at text) (drop (at + 1) text))
+    decimal_is spot text None = made_tenths (tenths_of text []) (tenths_at text None) (tenths_same text [])
+
+    abbrev LengthIs : DurationNode → TypedExpr → Type 0
+    LengthIs (duration.Decimal text) x = typed_form x ≡ typed.Tenths (pos (tenths text))
+    LengthIs (duration.Seconds e) x = ExprIs around names e x
+
+    length_sure : (spot : Spot) (d : DurationNode) → Known (duration_node d) → Sure (LengthIs d) (length_found table scope inner spot d)
+    unfolding point_in length_found
+    length_sure spot (duration.Decimal text) known = record { where_clear = λ h. decimal_is spot text (position (λ c. c == 46) text) }
+    length_sure spot (duration.Seconds e) known = value_sure (duration_naming scope inner e) shape.Integer e known
+
+    duration_by : (d : DurationNode) (operands : List TypedExpr) (at : ℕ) → PlacedAs (LengthIs d) (within operands) at → DurationIs (within operands) d at
+    duration_by (duration.Decimal text) operands at p = rule.decimal p.there p.good
+    duration_by (duration.Seconds e) operands at p = rule.seconds (record { value = p.value; there = p.there; resolved = p.good })
+
+    pub duration_stays : (d : Duration) (s : Sofar) → Known (duration_names d) → Room s → Thus (Stays (λ i at. DurationIs i d.node at) s) (duration_read table scope inner d s)
+    unfolding duration_read
+    duration_stays d s known room =
+        summed (λ i at. DurationIs i d.node at) d.spot (λ _ s. given (length_found table scope inner d.spot d.node) s >>= λ x s. placed x s) s room (λ spare.
+        thus_then (λ x t. (t ≡ with_sum s) × LengthIs d.node x) (Stays (λ i at. DurationIs i d.node at) (with_sum s)) (given (length_found table scope inner d.spot d.node) (with_sum s)) (λ x s. placed x s)
+        (thus_given (LengthIs d.node) (λ x t. (t ≡ with_sum s) × LengthIs d.node x) (length_found table scope inner d.spot d.node) (with_sum s) (length_sure d.spot d.node known) (λ x p. (refl, p)))
+        (λ x t h. subst (λ (u : Sofar). Thus (Stays (λ i at. DurationIs i d.node at) (with_sum s)) (placed x u)) (sym h.0)
+        (thus_weaker (Stays (PlacedAs (LengthIs d.node)) (with_sum s)) (Stays (λ i at. DurationIs i d.node at) (with_sum s)) (placed x (with_sum s)) (placed_stays (LengthIs d.node) x (with_sum s) spare h.1)
+        (λ at u k. record { behind = k.behind; good = λ operands ends. duration_by d.node operands at (k.good operands ends) }))))
+
+    -- ---- operands
+
+    -- the sign of a sum from a bound name
+    record SumIs (e : Expr) (o : Operator) : Type 0 where
+      first : Expr
+      link : Link
+      is : form e ≡ tree.Sum first (link ∷ [])
+      sign : (out-Link link).operator ≡ o
+
+    abbrev NamedAs : Naming → Expr → Type 0
+    NamedAs naming.Plus e = SumIs e operator.Add
+    NamedAs naming.Minus e = SumIs e operator.Subtract
+    NamedAs n e = Unit {0}
+
+    sign_is : (e first : Expr) (link : Link) (o : Operator) → form e ≡ tree.Sum first (link ∷ []) → (out-Link link).operator ≡ o → NamedAs (sign_naming o) e
+    sign_is e first link operator.Add is sign = record { first = first; link = link; is = is; sign = sign }
+    sign_is e first link operator.Subtract is sign = record { first = first; link = link; is = is; sign = sign }
+    sign_is e first link o is sign = tt
+
+    link_is : (e first : Expr) (link : Link) (b : Bool) → form e ≡ tree.Sum first (link ∷ []) → NamedAs (if b then sign_naming (out-Link link).operator else naming.Astray) e
+    link_is e first link true is = sign_is e first link (out-Link link).operator is refl
+    link_is e first link false is = tt
+
+    links_are : (left : List (List ℕ)) (e first : Expr) (links : List Link) → form e ≡ tree.Sum first links → NamedAs (links_naming scope inner left first links) e
+    links_are left e first [] is = tt
+    links_are left e first (link ∷ []) is = link_is e first link (is_path scope inner left first && not (mentions (is_own scope inner) (out-Link link).operand)) is
+    links_are left e first (link ∷ next ∷ links) is = tt
+
+    path_named : (e : Expr) (b : Bool) → NamedAs (if b then naming.Path else naming.Astray) e
+    path_named e true = tt
+    path_named e false = tt
+
+    sum_named : (left : List (List ℕ)) (e first : Expr) (links : List Link) (b : Bool) → form e ≡ tree.Sum first links → NamedAs (if b then links_naming scope inner left first links else naming.Astray) e
+    sum_named left e first links true is = links_are left e first links is
+    sum_named left e first links false is = tt
+
+    form_named : (left : List (List ℕ)) (integer : Bool) (e : Expr) (l : Form) → form e ≡ l → NamedAs (form_layer scope inner left integer l) e
+    form_named left integer e (tree.Postfix first us) is = path_named e (is_path_of scope inner left first us)
+    form_named left integer e (tree.Sum first links) is = sum_named left e first links integer is
+    form_named left integer e l is = tt
+
+    naming_by : (left : List (List ℕ)) (integer : Bool) (e : Expr) (b : Bool) → NamedAs (if b then form_of scope inner left integer e else naming.Free) e
+    unfolding form_of
+    naming_by left integer e true = form_named left integer e (layer_of e) refl
+    naming_by left integer e false = tt
+
+    naming_is : (left : List (List ℕ)) (integer : Bool) (e : Expr) → NamedAs (naming_of scope inner left integer e) e
+    naming_is left integer e = naming_by left integer e (mentions (is_own scope inner) e)
+
+    abbrev OperandOf : Expr → Inside → Operand → Type 0
+    OperandOf e i o = OperandIs i e o
+
+    given_stays : (e : Expr) (x : TypedExpr) (s : Sofar) → Spare s → ExprIs around names e x → Thus (Stays (OperandOf e) s) (given_operand x s)
+    unfolding given_operand
+    given_stays e x s spare h =
+        stays_then (PlacedAs (Valued e)) (OperandOf e) (placed x s) (λ at t. went (operand.Given at) t) s (placed_stays (Valued e) x s spare h)
+        (λ at t room. thus_went (Stays (λ i o. PlacedAs (Valued e) i at → OperandOf e i o) t) (operand.Given at) t (record { behind = behind_same t t refl room; good = λ operands ends p. rule.given (given_by e operands at p) }))
+
+    bound_stays : (e : Expr) (r : Reached) (s : Sofar) → Room s → Thus (Stays (OperandOf e) s) (went (bound r) s)
+    bound_stays e r s room = thus_went (Stays (OperandOf e) s) (bound r) s (record { behind = behind_same s s refl room; good = λ operands ends. rule.bound })
+
+    -- behind an operand that is placed
+    signed_stays : (e : Expr) (n : Naming) (r : Reached) (x : TypedExpr) (s : Sofar) → Spare s → ((i : Inside) (at : ℕ) → OperandIs i e (signed n r at)) → Thus (Stays (OperandOf e) s) (placed x s >>= λ at t. went (signed n r at) t)
+    signed_stays e n r x s spare h =
+        stays_then (PlacedAs (λ y. Unit {0})) (OperandOf e) (placed x s) (λ at t. went (signed n r at) t) s (placed_stays (λ y. Unit {0}) x s spare tt)
+        (λ at t room. thus_went (Stays (λ i o. PlacedAs (λ y. Unit {0}) i at → OperandOf e i o) t) (signed n r at) t (record { behind = behind_same t t refl room; good = λ operands ends p. h (within operands) at }))
+
+    added_stays : (e : Expr) (n : Naming) (r : Reached) (o : Option TypedLink) (s : Sofar) → Spare s → ((i : Inside) (at : ℕ) → OperandIs i e (signed n r at)) → Thus (Stays (OperandOf e) s) (added_operand n r o s)
+    unfolding added_operand
+    added_stays e n r (Some link) s spare h = signed_stays e n r (out-TypedLink link).operand s spare h
+    added_stays e n r None s spare h = bound_stays e r s (roomy s spare)
+
+    layer_stays : (e : Expr) (n : Naming) (l : Layer) (s : Sofar) → Spare s → ((r : Reached) (i : Inside) (at : ℕ) → OperandIs i e (signed n r at)) → Thus (Stays (OperandOf e) s) (sum_layer n l s)
+    layer_stays e n (typed.Sum first links) s spare h = added_stays e n (path_in first) (last_of links) s spare (h (path_in first))
+    layer_stays e n l s spare h = bound_stays e (record { place = 0; fields = [] }) s (roomy s spare)
+
+    sum_stays : (e : Expr) (n : Naming) (x : TypedExpr) (s : Sofar) → Spare s → ((r : Reached) (i : Inside) (at : ℕ) → OperandIs i e (signed n r at)) → Thus (Stays (OperandOf e) s) (sum_operand n x s)
+    unfolding sum_operand
+    sum_stays e n x s spare h = layer_stays e n (typed_layer x) s spare h
+
+    operand_by : (n : Naming) (e : Expr) (x : TypedExpr) (s : Sofar) → NamedAs n e → Spare s → ExprIs around names e x → Thus (Stays (OperandOf e) s) (operand_of n x s)
+    unfolding operand_of
+    operand_by naming.Path e x s is spare h = bound_stays e (path_in x) s (roomy s spare)
+    operand_by naming.Plus e x s is spare h = sum_stays e naming.Plus x s spare (λ r i at. rule.plus is.is is.sign)
+    operand_by naming.Minus e x s is spare h = sum_stays e naming.Minus x s spare (λ r i at. rule.minus is.is is.sign)
+    operand_by n e x s is spare h = given_stays e x s spare h
+
+    pub operand_stays : (left : List (List ℕ)) (s : Shape) (e : Expr) (t : Sofar) → Known (expr_names e) → Room t → Thus (Stays (OperandOf e) t) (operand_read table scope inner left s e t)
+    unfolding operand_read named_operand
+    operand_stays left s e t known room =
+        let n = naming_of scope inner left (is_integer s) e in
+        summed (OperandOf e) (out-Expr e).spot (λ _ u. named_operand table scope inner n s e u) t room (λ spare.
+        thus_then (λ x u. (u ≡ with_sum t) × ExprIs around names e x) (Stays (OperandOf e) (with_sum t)) (given (named_value table inner n s e) (with_sum t)) (λ x u. operand_of n x u)
+        (thus_given (λ x. ExprIs around names e x) (λ x u. (u ≡ with_sum t) × ExprIs around names e x) (named_value table inner n s e) (with_sum t) (value_sure n s e known) (λ x p. (refl, p)))
+        (λ x u h. subst (λ (v : Sofar). Thus (Stays (OperandOf e) (with_sum t)) (operand_of n x v)) (sym h.0) (operand_by n e x (with_sum t) (naming_is left (is_integer s) e) spare h.1)))
