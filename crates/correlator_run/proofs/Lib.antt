@@ -1,4 +1,0 @@
-pub mod Loading
-pub mod Completing
-pub mod Texts
-pub mod Wording
