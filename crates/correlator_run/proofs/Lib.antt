@@ -1,0 +1,6 @@
+pub mod Completing
+pub mod Faults
+pub mod Loading
+pub mod Promising
+pub mod Texts
+pub mod Wording
