@@ -1,6 +1,5 @@
 pub mod Completing
 pub mod Faults
 pub mod Loading
-pub mod Promising
 pub mod Texts
 pub mod Wording

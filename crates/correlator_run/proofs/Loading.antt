@@ -8,11 +8,10 @@ use Rattle.std.proofs.lemmas.Result.{err_from_is_err_and}
 use Rattle.outside.specs.Told.{Told}
 use Rattle.typed_program.specs.declared.program.Program.{Program}
 use Rattle.naive_meaning.specs.declared.entry.Item.{Item}
-use Rattle.evt_reader.specs.Files.{AreItems}
 use Rattle.run_face.specs.Words.{Named, named_files}
 use Rattle.correlator_run.specs.declared.refusal.Refusal.{Refusal}
 use Rattle.correlator_run.specs.declared.refusal.Refusal.TheVariants as refusal
-use Rattle.correlator_run.specs.Inputs.{Files, most_events, most_program, Wanted, wanted_program, wanted_of, AreRead, IsOnlyInput}
+use Rattle.correlator_run.specs.Inputs.{Files, most_events, Wanted, wanted_program, wanted_of, AreRead, IsOnlyInput}
 use Rattle.correlator_run.specs.Causes.{IsCause}
 use Rattle.correlator_run.specs.Steps.{FileRead, IsFirstUnread, TextsRead, ProgramTold, ItemsTold, WordsRead, Loads}
 
@@ -97,31 +96,29 @@ module _ {P : Type 0} (view : P → Named × (Program × List Item)) (words : Li
       go (refusal.Read name) t = absurd t
       go (refusal.TooLong name) t = absurd t
       go (refusal.Program name fault) t = absurd t
-      go (refusal.Events name line) t =
-          (
-            n,
-            named,
-            record {
-              events = events;
-              texts = texts;
-              read = all_read files now n events texts first same second;
-              whose = t.0;
-              program = p;
-              is_program = program.0;
-              only_program = program.1;
-              refused = t.1;
-              only_line = t.2;
-              none = t.3;
-            },
-          )
+      go (refusal.Events name line) t = (
+        n,
+        named,
+        record {
+          events = events;
+          texts = texts;
+          read = all_read files now n events texts first same second;
+          whose = t.0;
+          program = p;
+          is_program = program.0;
+          only_program = program.1;
+          refused = t.1;
+          only_line = t.2;
+          none = t.3;
+        },
+      )
       go refusal.Memory t = tt
 
 -- a program and items
 pub loaded : (words : List (List ℕ)) (files now : Option Files) (n : Named) (events seen : List ℕ) (texts : List (List ℕ)) (p : Program) (items : List Item) → named_files words ≡ Some n → FileRead files None n.events most_events (Ok events) → now ≡ files
     → TextsRead now None n.programs (Ok texts) → seen ≡ events → ProgramTold texts n.programs (Ok p) → ItemsTold p.types seen n.events (Ok items) → (named_files words ≡ Some n) × IsOnlyInput files n p items
 loaded words files now n events seen texts p items named first same second is program_told items_told =
-    let told = subst (λ (x : List ℕ). ItemsTold p.types x n.events (Ok items)) is items_told in
-    (
+    let told = subst (λ (x : List ℕ). ItemsTold p.types x n.events (Ok items)) is items_told in (
       named,
       record {
         input =

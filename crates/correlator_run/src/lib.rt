@@ -10,4 +10,3 @@ mod top;
 pub use laws::promise_completes;
 pub use refusal::Refusal;
 pub use top::{Outcome, correlate_serial};
-

@@ -109,7 +109,7 @@ fn refusal_of(alloc: Global, names: &Texts, why: ProgramFault) -> Result<Refusal
     }
 }
 
-#[tactic(auto, using(crate::proofs::Faults::fault_named, crate::proofs::Faults::told_refused))]
+#[tactic(auto, using(crate::proofs::Faults::told_refused))]
 fn program_of(alloc: Global, names: &Texts, texts: &List<Bytes>) -> Result<Program, Refusal>
     requires short { AllByRecursion (λ text. length text < 4294967295) texts.now }
     requires few { length texts.now ≤ 64 }

@@ -114,11 +114,13 @@ pub fn correlate_serial<H: Shelf, W: Sink, V: Sink>(
     ensures { KeepsPromise (map string_bytes words.now) (record { shelf = record { faults = H.faults shelf.old; missed = H.missed shelf.old; told = H.told shelf.old }; out = record { faults = W.faults out.old; taken = W.taken out.old; room = W.room out.old } }) (record { shelf = record { faults = H.faults shelf.new; missed = H.missed shelf.new; told = H.told shelf.new }; out = record { faults = W.faults out.new; taken = W.taken out.new; room = W.room out.new } }) result.status result.kept }
 {
     match finish(alloc, words, shelf) {
-        Ok(Finished {
-            program: _,
-            kept,
-            text,
-        }) => {
+        Ok(
+            Finished {
+                program: _,
+                kept,
+                text,
+            },
+        ) => {
             let status = write(out, err, &kept, text.as_slice());
             Outcome {
                 status,
