@@ -1,10 +1,12 @@
 //! Runs monitors over a recorded event file, and prints what each context prints.
 #![tactic(auto)]
 
-use correlator_run::correlate_serial;
 use outside::{DiskShelf, StreamSink};
 use std::env;
+use std::io;
+use std::io::ErrorKind;
 use std::process::ExitCode;
+use tall_run::{Call, correlate_tall};
 
 /// The status where the words aren't texts in UTF-8.
 const WORDS_UNREADABLE: u8 = 15;
@@ -12,20 +14,36 @@ const WORDS_UNREADABLE: u8 = 15;
 /// The status where there is no memory for the words.
 const NO_MEMORY: u8 = 4;
 
-fn main(rt: HostRuntime) -> ExitCode {
-    let alloc = rt.alloc();
-    let Ok(args) = env::args(&rt) else {
-        return ExitCode::from(WORDS_UNREADABLE);
-    };
-    let mut words = Vec::new(alloc);
-    for word in args.skip(1) {
-        if words.push(word).is_err() {
-            return ExitCode::from(NO_MEMORY);
-        }
+/// The words of the command line without the program's own name.
+fn words_of(rt: &HostRuntime) -> io::Result<Vec<String>> {
+    let mut words = Vec::new(rt.alloc());
+    for word in env::args(rt)?.skip(1) {
+        words.push(word)?;
     }
-    let mut shelf = DiskShelf::new(&rt);
-    let mut out = StreamSink::new(&rt, false);
-    let mut err = StreamSink::new(&rt, true);
-    let outcome = correlate_serial(alloc, &words, &mut shelf, &mut out, &mut err);
-    ExitCode::from(outcome.status)
+    Ok(words)
+}
+
+/// The status where there are no words. It is told on the standard error where there is no memory for them.
+fn without_words(rt: &HostRuntime, why: &io::Error) -> ExitCode {
+    if why.kind() != ErrorKind::OutOfMemory {
+        return ExitCode::from(WORDS_UNREADABLE);
+    }
+    // A line that can't be written changes no status.
+    drop(eprintln!(rt; "epl: no memory"));
+    ExitCode::from(NO_MEMORY)
+}
+
+fn main(rt: HostRuntime) -> ExitCode {
+    let words = match words_of(&rt) {
+        Ok(words) => words,
+        Err(why) => return without_words(&rt, &why),
+    };
+    let call = Call {
+        words,
+        shelf: DiskShelf::new(rt),
+        out: StreamSink::new(rt, false),
+        err: StreamSink::new(rt, true),
+    };
+    let left = correlate_tall(&rt, rt.alloc(), call);
+    ExitCode::from(left.status)
 }

@@ -1,4 +1,5 @@
-pub mod Loading
 pub mod Completing
+pub mod Faults
+pub mod Loading
 pub mod Texts
 pub mod Wording

@@ -1,154 +1,135 @@
 -- The exits of loading.
-use Rattle.std.proofs.Common.{◌≡◌, ℕ, suc, List, [], ◌∷◌, map, take, Option, Some, None, slice_get, Result, Ok, Err, IfSome, inr, refl, sym, ◌∙◌, ap, subst}
+use Rattle.std.proofs.Common.{◌≡◌, ℕ, suc, List, [], ◌∷◌, map, take, Option, Some, None, slice_get, Result, Ok, Err, IfSome, refl, sym, ◌∙◌, ap, subst}
 use Rattle.std.specs.Result.{IsErrAnd}
 use Rattle.std.specs.Option.{option_map}
 use Rattle.std.proofs.lemmas.Option.{slice_get-map}
 use Rattle.std.proofs.lemmas.List.{take-map}
 use Rattle.std.proofs.lemmas.Result.{err_from_is_err_and}
+use Rattle.outside.specs.Told.{Told}
 use Rattle.typed_program.specs.declared.program.Program.{Program}
 use Rattle.naive_meaning.specs.declared.entry.Item.{Item}
-use Rattle.program_reader.specs.declared.fault.ProgramFault.{ProgramFault}
-use Rattle.program_reader.specs.declared.fault.ProgramFault.TheVariants as program
-use Rattle.program_reader.specs.Programs.{TellsProgram}
-use Rattle.evt_reader.specs.Files.{AreItems}
 use Rattle.run_face.specs.Words.{Named, named_files}
 use Rattle.correlator_run.specs.declared.refusal.Refusal.{Refusal}
 use Rattle.correlator_run.specs.declared.refusal.Refusal.TheVariants as refusal
-use Rattle.correlator_run.specs.Inputs.{Files, most_events, most_program, Wanted, wanted_program, wanted_of, ArePresent, AreTexts, IsInput}
-use Rattle.correlator_run.specs.Causes.{file_of, IsCause, Loads}
-use Rattle.correlator_run.specs.Steps.{FileTold, IsFirstFault, TextsTold, ProgramTold, ItemsTold, refused}
+use Rattle.correlator_run.specs.Inputs.{Files, most_events, Wanted, wanted_program, wanted_of, AreRead, IsOnlyInput}
+use Rattle.correlator_run.specs.Causes.{IsCause}
+use Rattle.correlator_run.specs.Steps.{FileRead, IsFirstUnread, TextsRead, ProgramTold, ItemsTold, WordsRead, Loads}
 
--- what is told of texts without a program is told of the refusal
-pub told_refused : (texts names : List (List ℕ)) (name : List ℕ) (why : ProgramFault) → TellsProgram texts (Err why) → slice_get names (file_of why) ≡ Some name → ProgramTold texts names (Err (refused name why))
-told_refused texts names name (program.Lex file spot) t at = (at, t.0, t.1)
-told_refused texts names name (program.Syntax file spot) t at = (at, t.0, t.1)
-told_refused texts names name (program.Typing code file spot) t at = (at, t.0, t.1)
-told_refused texts names name (program.Unbuilt file spot) t at = (at, t.0, t.1)
-told_refused texts names name program.Memory t at = tt
+-- words that name no files
+words_cause : (words : List (List ℕ)) (files : Option Files) (begun : Option Told) (why : Refusal) → WordsRead words (Err why) → IsCause words files begun why
+words_cause words files begun refusal.Words t = t
+words_cause words files begun (refusal.Missing name) t = absurd t
+words_cause words files begun (refusal.Read name) t = absurd t
+words_cause words files begun (refusal.TooLong name) t = absurd t
+words_cause words files begun (refusal.Program name fault) t = absurd t
+words_cause words files begun (refusal.Events name line) t = absurd t
+words_cause words files begun refusal.Memory t = tt
 
--- files whose texts are had are there and short enough
-pub texts-present : (files : Files) (names texts : List (List ℕ)) → AreTexts files most_program names texts → ArePresent files (map wanted_program names)
-texts-present files [] [] t = tt
-texts-present files [] (bytes ∷ texts) t = absurd t
-texts-present files (name ∷ names) [] t = absurd t
-texts-present files (name ∷ names) (bytes ∷ texts) t = ((bytes, t.0, t.1), texts-present files names texts t.2)
-
--- a cause in the files that the words name is a refusal
-caused : {P : Type 0} (view : P → Named × (Program × List Item)) (files : Files) (words : List (List ℕ)) (n : Named) (why : Refusal) → named_files words ≡ Some n → IsCause files n why → Loads view files words (Err why)
-caused view files words n refusal.Words at cause = absurd cause
-caused view files words n (refusal.Missing name) at cause = inr (n, at, cause)
-caused view files words n (refusal.Read name) at cause = inr (n, at, cause)
-caused view files words n (refusal.TooLong name) at cause = inr (n, at, cause)
-caused view files words n (refusal.Program name fault) at cause = inr (n, at, cause)
-caused view files words n (refusal.Events name line) at cause = inr (n, at, cause)
-caused view files words n refusal.Memory at cause = tt
-
--- a wanted file that isn't had, behind files that are there and short enough, is a cause
-unhad : (files : Files) (n : Named) (place : ℕ) (w : Wanted) (why : Refusal) → slice_get (wanted_of n) place ≡ Some w → ArePresent files (take place (wanted_of n)) → FileTold (files w.name) w.name w.most (Err why) → IsCause files n why
-unhad files n place w refusal.Words at before t = absurd t
-unhad files n place w (refusal.Missing name) at before t = record { place = place; wanted = w; there = at; whose = t.0; before = before; says = t.1 }
-unhad files n place w (refusal.Read name) at before t = record { place = place; wanted = w; there = at; whose = t; before = before; says = tt }
-unhad files n place w (refusal.TooLong name) at before t = record { place = place; wanted = w; there = at; whose = t.0; before = before; says = (t.1, t.2, t.3) }
-unhad files n place w (refusal.Program name fault) at before t = absurd t
-unhad files n place w (refusal.Events name line) at before t = absurd t
-unhad files n place w refusal.Memory at before t = tt
-
--- a refusal in place of the event file's bytes
-pub events-refused : {P : Type 0} (view : P → Named × (Program × List Item)) (of : Option Files) (words : List (List ℕ)) (n : Named) (why : Refusal) (r : Result P Refusal) → named_files words ≡ Some n
-    → IfSome of (λ files. FileTold (files n.events) n.events most_events (Err why)) → IsErrAnd r (λ e. e ≡ why) → IfSome of (λ files. Loads view files words r)
-events-refused view None words n why r named told h = record {}
-events-refused view (Some files) words n why r named told h =
-    let p = err_from_is_err_and r h in rw (p.1, p.2) (caused view files words n why named (unhad files n 0 (record { name = n.events; most = most_events }) why refl tt told))
-
--- a refusal in place of the bytes of the program files
-pub texts-refused : {P : Type 0} (view : P → Named × (Program × List Item)) (of now : Option Files) (words : List (List ℕ)) (n : Named) (events : List ℕ) (why : Refusal) (r : Result P Refusal) → named_files words ≡ Some n
-    → IfSome of (λ files. FileTold (files n.events) n.events most_events (Ok events)) → now ≡ of → IfSome now (λ files. IsFirstFault files n.programs why) → IsErrAnd r (λ e. e ≡ why) → IfSome of (λ files. Loads view files words r)
-texts-refused view None now words n events why r named first same told h = record {}
-texts-refused view (Some files) now words n events why r named first same told h =
-    let p = err_from_is_err_and r h in rw (p.1, p.2) (caused view files words n why named (unhad files n (suc fault.place) (wanted_program fault.name) why there before fault.told))
+-- a wanted file that isn't read, behind files that are
+file_cause : (words : List (List ℕ)) (files : Option Files) (begun : Option Told) (n : Named) (place : ℕ) (w : Wanted) (texts : List (List ℕ)) (why : Refusal) → named_files words ≡ Some n → slice_get (wanted_of n) place ≡ Some w → AreRead files (take place (wanted_of n)) texts
+    → FileRead files begun w.name w.most (Err why) → IsCause words files begun why
+file_cause words files begun n place w texts refusal.Words at there before t = absurd t
+file_cause words files begun n place w texts (refusal.Missing name) at there before t = (n, at, record { place = place; wanted = w; there = there; whose = t.0; texts = texts; before = before; last = t.1; says = t.2 })
+file_cause words files begun n place w texts (refusal.Read name) at there before t = (n, at, record { place = place; wanted = w; there = there; whose = t.0; texts = texts; before = before; last = t.1; says = anything files })
   where
-    fault : IsFirstFault files n.programs why
-    fault = rw same at told
+    anything : (fs : Option Files) → IfSome fs (λ fs. Unit {0})
+    anything None = tt
+    anything (Some fs) = tt
+file_cause words files begun n place w texts (refusal.TooLong name) at there before t = (n, at, record { place = place; wanted = w; there = there; whose = t.0; texts = texts; before = before; last = t.1; says = t.2 })
+file_cause words files begun n place w texts (refusal.Program name fault) at there before t = absurd t
+file_cause words files begun n place w texts (refusal.Events name line) at there before t = absurd t
+file_cause words files begun n place w texts refusal.Memory at there before t = tt
 
-    there : slice_get (wanted_of n) (suc fault.place) ≡ Some (wanted_program fault.name)
-    there = slice_get-map wanted_program n.programs fault.place ∙ ap (option_map wanted_program) fault.there
+-- the event file and the program files are read
+all_read : (files now : Option Files) (n : Named) (events : List ℕ) (texts : List (List ℕ)) → FileRead files None n.events most_events (Ok events) → now ≡ files → TextsRead now None n.programs (Ok texts) → AreRead files (wanted_of n) (events ∷ texts)
+all_read files now n events texts first same second = (first.0, first.1, subst (λ (fs : Option Files). AreRead fs (map wanted_program n.programs) texts) same second)
 
-    before : ArePresent files (take (suc fault.place) (wanted_of n))
-    before = ((events, first.0, first.1), subst (ArePresent files) (sym (take-map wanted_program fault.place n.programs)) (texts-present files (take fault.place n.programs) fault.texts fault.before))
+module _ {P : Type 0} (view : P → Named × (Program × List Item)) (words : List (List ℕ)) (files : Option Files) (begun : Option Told) where
+  -- a refusal with its cause
+  refused : (why : Refusal) (r : Result P Refusal) → IsCause words files begun why → IsErrAnd r (λ e. e ≡ why) → Loads view words files begun r
+  refused why r cause told = let p = err_from_is_err_and r told in rw (p.1, p.2) cause
 
--- a refusal of the program
-pub program-refused : {P : Type 0} (view : P → Named × (Program × List Item)) (of now : Option Files) (words : List (List ℕ)) (n : Named) (events : List ℕ) (texts : List (List ℕ)) (why : Refusal) (r : Result P Refusal) → named_files words ≡ Some n
-    → IfSome of (λ files. FileTold (files n.events) n.events most_events (Ok events)) → now ≡ of → IfSome now (λ files. TextsTold files n.programs (Ok texts)) → ProgramTold texts n.programs (Err why) → IsErrAnd r (λ e. e ≡ why)
-    → IfSome of (λ files. Loads view files words r)
-program-refused view None now words n events texts why r named first same second told h = record {}
-program-refused {P} view (Some files) now words n events texts why r named first same second told h = let p = err_from_is_err_and r h in rw (p.1, p.2) (go why told)
-  where
-    here : AreTexts files most_program n.programs texts
-    here = rw same at second
+  -- in place of the words
+  pub words_refused : (why : Refusal) (r : Result P Refusal) → WordsRead words (Err why) → IsErrAnd r (λ e. e ≡ why) → Loads view words files begun r
+  words_refused why r read told = refused why r (words_cause words files begun why read) told
 
-    go : (w : Refusal) → ProgramTold texts n.programs (Err w) → Loads view files words (Err w)
-    go refusal.Words t = absurd t
-    go (refusal.Missing name) t = absurd t
-    go (refusal.Read name) t = absurd t
-    go (refusal.TooLong name) t = absurd t
-    go (refusal.Program name fault) t =
-        inr (n, named, record { whose = t.0; present = ((events, first.0, first.1), texts-present files n.programs texts here); texts = texts; here = here; cause = t.1; none = t.2 })
-    go (refusal.Events name line) t = absurd t
-    go refusal.Memory t = tt
+  -- in place of the event file's bytes
+  pub events_refused : (n : Named) (why : Refusal) (r : Result P Refusal) → named_files words ≡ Some n → FileRead files begun n.events most_events (Err why) → IsErrAnd r (λ e. e ≡ why) → Loads view words files begun r
+  events_refused n why r named read told = refused why r (file_cause words files begun n 0 (record { name = n.events; most = most_events }) [] why named refl tt read) told
 
--- a refusal of the event file
-pub items-refused : {P : Type 0} (view : P → Named × (Program × List Item)) (of now : Option Files) (words : List (List ℕ)) (n : Named) (events seen : List ℕ) (texts : List (List ℕ)) (p : Program) (why : Refusal) (r : Result P Refusal) → named_files words ≡ Some n
-    → IfSome of (λ files. FileTold (files n.events) n.events most_events (Ok events)) → now ≡ of → IfSome now (λ files. TextsTold files n.programs (Ok texts)) → seen ≡ events → ProgramTold texts n.programs (Ok p)
-    → ItemsTold p.types seen n.events (Err why) → IsErrAnd r (λ e. e ≡ why) → IfSome of (λ files. Loads view files words r)
-items-refused view None now words n events seen texts p why r named first same second is program told h = record {}
-items-refused {P} view (Some files) now words n events seen texts p why r named first same second is program told h =
-    let q = err_from_is_err_and r h in rw (q.1, q.2) (go why (subst (λ x. ItemsTold p.types x n.events (Err why)) is told))
-  where
-    here : AreTexts files most_program n.programs texts
-    here = rw same at second
+  -- in place of the bytes of the program files
+  pub texts_refused : (now : Option Files) (n : Named) (events : List ℕ) (why : Refusal) (r : Result P Refusal) → named_files words ≡ Some n → FileRead files None n.events most_events (Ok events) → now ≡ files → IsFirstUnread now begun n.programs why
+      → IsErrAnd r (λ e. e ≡ why) → Loads view words files begun r
+  texts_refused now n events why r named first same second told = refused why r (file_cause words files begun n (suc fault.place) (wanted_program fault.name) (events ∷ fault.texts) why named there before fault.read) told
+    where
+      fault : IsFirstUnread files begun n.programs why
+      fault = subst (λ (fs : Option Files). IsFirstUnread fs begun n.programs why) same second
 
-    go : (w : Refusal) → ItemsTold p.types events n.events (Err w) → Loads view files words (Err w)
-    go refusal.Words t = absurd t
-    go (refusal.Missing name) t = absurd t
-    go (refusal.Read name) t = absurd t
-    go (refusal.TooLong name) t = absurd t
-    go (refusal.Program name fault) t = absurd t
-    go (refusal.Events name line) t =
-        inr (
-          n,
-          named,
-          record {
-            whose = t.0;
-            present = ((events, first.0, first.1), texts-present files n.programs texts here);
-            event_bytes = events;
-            event_here = first.0;
-            texts = texts;
-            here = here;
-            program = p;
-            is_program = program.0;
-            only = program.1;
-            refused = t.1;
-            none = t.2;
-          },
-        )
-    go refusal.Memory t = tt
+      there : slice_get (wanted_of n) (suc fault.place) ≡ Some (wanted_program fault.name)
+      there = slice_get-map wanted_program n.programs fault.place ∙ ap (option_map wanted_program) fault.there
+
+      before : AreRead files (take (suc fault.place) (wanted_of n)) (events ∷ fault.texts)
+      before = (first.0, first.1, subst (λ (ws : List Wanted). AreRead files ws fault.texts) (sym (take-map wanted_program fault.place n.programs)) fault.before)
+
+  -- in place of the program
+  pub program_refused : (now : Option Files) (n : Named) (events : List ℕ) (texts : List (List ℕ)) (why : Refusal) (r : Result P Refusal) → named_files words ≡ Some n → FileRead files None n.events most_events (Ok events) → now ≡ files → TextsRead now None n.programs (Ok texts)
+      → ProgramTold texts n.programs (Err why) → IsErrAnd r (λ e. e ≡ why) → Loads view words files begun r
+  program_refused now n events texts why r named first same second program told = refused why r (go why program) told
+    where
+      go : (w : Refusal) → ProgramTold texts n.programs (Err w) → IsCause words files begun w
+      go refusal.Words t = absurd t
+      go (refusal.Missing name) t = absurd t
+      go (refusal.Read name) t = absurd t
+      go (refusal.TooLong name) t = absurd t
+      go (refusal.Program name fault) t = (n, named, record { events = events; texts = texts; read = all_read files now n events texts first same second; whose = t.0; cause = t.1; none = t.2 })
+      go (refusal.Events name line) t = absurd t
+      go refusal.Memory t = tt
+
+  -- in place of the items
+  pub items_refused : (now : Option Files) (n : Named) (events seen : List ℕ) (texts : List (List ℕ)) (p : Program) (why : Refusal) (r : Result P Refusal) → named_files words ≡ Some n → FileRead files None n.events most_events (Ok events) → now ≡ files
+      → TextsRead now None n.programs (Ok texts) → seen ≡ events → ProgramTold texts n.programs (Ok p) → ItemsTold p.types seen n.events (Err why) → IsErrAnd r (λ e. e ≡ why) → Loads view words files begun r
+  items_refused now n events seen texts p why r named first same second is program items told = refused why r (go why (subst (λ x. ItemsTold p.types x n.events (Err why)) is items)) told
+    where
+      go : (w : Refusal) → ItemsTold p.types events n.events (Err w) → IsCause words files begun w
+      go refusal.Words t = absurd t
+      go (refusal.Missing name) t = absurd t
+      go (refusal.Read name) t = absurd t
+      go (refusal.TooLong name) t = absurd t
+      go (refusal.Program name fault) t = absurd t
+      go (refusal.Events name line) t = (
+        n,
+        named,
+        record {
+          events = events;
+          texts = texts;
+          read = all_read files now n events texts first same second;
+          whose = t.0;
+          program = p;
+          is_program = program.0;
+          only_program = program.1;
+          refused = t.1;
+          only_line = t.2;
+          none = t.3;
+        },
+      )
+      go refusal.Memory t = tt
 
 -- a program and items
-pub loaded : (of now : Option Files) (words : List (List ℕ)) (n : Named) (events seen : List ℕ) (texts : List (List ℕ)) (p : Program) (items : List Item) → named_files words ≡ Some n
-    → IfSome of (λ files. FileTold (files n.events) n.events most_events (Ok events)) → now ≡ of → IfSome now (λ files. TextsTold files n.programs (Ok texts)) → seen ≡ events → ProgramTold texts n.programs (Ok p)
-    → ItemsTold p.types seen n.events (Ok items) → IfSome of (λ files. IsInput files words n p items)
-loaded None now words n events seen texts p items named first same second is program_told items_told = record {}
-loaded (Some files) now words n events seen texts p items named first same second is program_told items_told =
-    record {
-      is = named;
-      event_bytes = events;
-      event_here = first.0;
-      event_short = first.1;
-      texts = texts;
-      programs_here = here;
-      is_program = program_told.0;
-      are_items = subst (λ (x : List ℕ). AreItems p.types x items) is items_told;
-    }
-  where
-    here : AreTexts files most_program n.programs texts
-    here = rw same at second
+pub loaded : (words : List (List ℕ)) (files now : Option Files) (n : Named) (events seen : List ℕ) (texts : List (List ℕ)) (p : Program) (items : List Item) → named_files words ≡ Some n → FileRead files None n.events most_events (Ok events) → now ≡ files
+    → TextsRead now None n.programs (Ok texts) → seen ≡ events → ProgramTold texts n.programs (Ok p) → ItemsTold p.types seen n.events (Ok items) → (named_files words ≡ Some n) × IsOnlyInput files n p items
+loaded words files now n events seen texts p items named first same second is program_told items_told =
+    let told = subst (λ (x : List ℕ). ItemsTold p.types x n.events (Ok items)) is items_told in (
+      named,
+      record {
+        input =
+            record {
+              events = events;
+              texts = texts;
+              read = all_read files now n events texts first same second;
+              is_program = program_told.0;
+              are_items = told.0;
+            };
+        only_program = program_told.1;
+        only_items = told.1;
+      },
+    )

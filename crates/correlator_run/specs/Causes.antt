@@ -1,7 +1,5 @@
 -- Why there is no run, and what causes that.
-use Rattle.std.specs.Prelude.{◌≡◌, ℕ, ◌≤◌, ◌⊎◌, List, take, Bool, true, false, Option, Some, None, slice_get, Result, Ok, Err, IfSome}
-use Rattle.outside.specs.Answers.{Moved}
-use Rattle.outside.specs.Counts.{Rose}
+use Rattle.std.specs.Prelude.{◌≡◌, ℕ, ◌<◌, List, ◌∷◌, length, take, Option, Some, None, slice_get, IfSome}
 use Rattle.outside.specs.Told.{Told}
 use Rattle.typed_program.specs.declared.program.Program.{Program}
 use Rattle.naive_meaning.specs.declared.entry.Item.{Item}
@@ -12,91 +10,87 @@ use Rattle.program_reader.specs.Programs.{IsProgram, IsCause as IsProgramCause}
 use Rattle.run_face.specs.Words.{Named, named_files}
 use Rattle.correlator_run.specs.declared.refusal.Refusal.{Refusal}
 use Rattle.correlator_run.specs.declared.refusal.Refusal.TheVariants as refusal
-use Rattle.correlator_run.specs.Inputs.{Files, most_program, Wanted, wanted_of, ArePresent, AreTexts, IsLonger, IsInput}
+use Rattle.correlator_run.specs.Inputs.{Files, Wanted, wanted_of, AreRead}
 
--- whether words are what was refused
-abbrev pub is_words : Refusal → Bool
-is_words refusal.Words = true
-is_words why = false
+-- the words are a command, and this is said of what it names
+abbrev pub Names : List (List ℕ) → (Named → Type 0) → Type 0
+Names words Says = (named : Named) × (named_files words ≡ Some named) × Says named
 
--- a named file of which this is said; those before it are there and short enough
-pub record IsFirstSo (files : Files) (named : Named) (name : List ℕ) (Says : Option (List ℕ) → ℕ → Type 0) : Type 0 where
+-- a named file wasn't read: those before it were, it is the one begun last, and where the shelf tells its files this is said
+-- of it
+pub record IsUnread (files : Option Files) (begun : Option Told) (named : Named) (name : List ℕ) (Says : Option (List ℕ) → ℕ → Type 0) : Type 0 where
   pub place : ℕ
   pub wanted : Wanted
   pub there : slice_get (wanted_of named) place ≡ Some wanted
   pub whose : name ≡ wanted.name
-  pub before : ArePresent files (take place (wanted_of named))
-  pub says : Says (files wanted.name) wanted.most
-
--- the number of the program file in which a fault is; want of memory is in none
-abbrev pub file_of : ProgramFault → ℕ
-file_of (fault.Lex file spot) = file
-file_of (fault.Syntax file spot) = file
-file_of (fault.Typing code file spot) = file
-file_of (fault.Unbuilt file spot) = file
-file_of fault.Memory = 0
-
--- all files are there and short enough, and the program files have no program, for this cause in the file of this name
-pub record IsProgramRefused (files : Files) (named : Named) (name : List ℕ) (why : ProgramFault) : Type 0 where
-  pub whose : slice_get named.programs (file_of why) ≡ Some name
-  pub present : ArePresent files (wanted_of named)
   pub texts : List (List ℕ)
-  pub here : AreTexts files most_program named.programs texts
+  pub before : AreRead files (take place (wanted_of named)) texts
+  pub last : IfSome begun (λ t. t.name ≡ wanted.name)
+  pub says : IfSome files (λ fs. Says (fs wanted.name) wanted.most)
+
+-- a file that isn't there
+abbrev pub IsMissing : Option (List ℕ) → ℕ → Type 0
+IsMissing file most = file ≡ None
+
+-- a file that is there, with more bytes
+abbrev pub IsLonger : Option (List ℕ) → ℕ → Type 0
+IsLonger file most = (bytes : List ℕ) × (file ≡ Some bytes) × (most < length bytes)
+
+-- any file: a failed read is no matter of what it holds
+abbrev pub IsAny : Option (List ℕ) → ℕ → Type 0
+IsAny file most = Unit {0}
+
+-- the place of the program file in which a fault is; want of memory is in none
+abbrev pub file_of : ProgramFault → Option ℕ
+file_of (fault.Lex file spot) = Some file
+file_of (fault.Syntax file spot) = Some file
+file_of (fault.Typing code file spot) = Some file
+file_of (fault.Unbuilt file spot) = Some file
+file_of fault.Memory = None
+
+-- the name at a place
+abbrev pub name_at : List (List ℕ) → Option ℕ → Option (List ℕ)
+name_at names None = None
+name_at names (Some place) = slice_get names place
+
+-- all files were read, and the program files have no program, for this cause in the file of this name
+pub record HasNoProgram (files : Option Files) (named : Named) (name : List ℕ) (why : ProgramFault) : Type 0 where
+  pub events : List ℕ
+  pub texts : List (List ℕ)
+  pub read : AreRead files (wanted_of named) (events ∷ texts)
+  pub whose : name_at named.programs (file_of why) ≡ Some name
   pub cause : IsProgramCause texts why
   pub none : (p : Program) → IsProgram texts p → ⊥
 
--- all files are there and short enough, the one program is there, and the event file has this line as the first that is refused
-pub record IsLineRefused (files : Files) (named : Named) (name : List ℕ) (line : ℕ) : Type 0 where
-  pub whose : name ≡ named.events
-  pub present : ArePresent files (wanted_of named)
-  pub event_bytes : List ℕ
-  pub event_here : files named.events ≡ Some event_bytes
+-- all files were read, this is the only program, and the event file has this line as the only one that is refused first
+pub record HasNoItems (files : Option Files) (named : Named) (name : List ℕ) (line : ℕ) : Type 0 where
+  pub events : List ℕ
   pub texts : List (List ℕ)
-  pub here : AreTexts files most_program named.programs texts
+  pub read : AreRead files (wanted_of named) (events ∷ texts)
+  pub whose : name ≡ named.events
   pub program : Program
   pub is_program : IsProgram texts program
-  pub only : (other : Program) → IsProgram texts other → other ≡ program
-  pub refused : IsRefusedLine program.types event_bytes line
-  pub none : (items : List Item) → AreItems program.types event_bytes items → ⊥
+  pub only_program : (other : Program) → IsProgram texts other → other ≡ program
+  pub refused : IsRefusedLine program.types events line
+  pub only_line : (other : ℕ) → IsRefusedLine program.types events other → other ≡ line
+  pub none : (items : List Item) → AreItems program.types events items → ⊥
 
--- the cause of a refusal in the named files; want of memory is free
-abbrev pub IsCause : Files → Named → Refusal → Type 0
-IsCause files named refusal.Words = ⊥
-IsCause files named (refusal.Missing name) = IsFirstSo files named name (λ file most. file ≡ None)
-IsCause files named (refusal.Read name) = IsFirstSo files named name (λ file most. Unit {0})
-IsCause files named (refusal.TooLong name) = IsFirstSo files named name (λ file most. IsLonger file most)
-IsCause files named (refusal.Program name why) = IsProgramRefused files named name why
-IsCause files named (refusal.Events name line) = IsLineRefused files named name line
-IsCause files named refusal.Memory = Unit {0}
+-- what causes a refusal; want of memory is free
+abbrev pub IsCause : List (List ℕ) → Option Files → Option Told → Refusal → Type 0
+IsCause words files begun refusal.Words = named_files words ≡ None
+IsCause words files begun (refusal.Missing name) = Names words (λ named. IsUnread files begun named name IsMissing)
+IsCause words files begun (refusal.Read name) = Names words (λ named. IsUnread files begun named name IsAny)
+IsCause words files begun (refusal.TooLong name) = Names words (λ named. IsUnread files begun named name IsLonger)
+IsCause words files begun (refusal.Program name why) = Names words (λ named. HasNoProgram files named name why)
+IsCause words files begun (refusal.Events name line) = Names words (λ named. HasNoItems files named name line)
+IsCause words files begun refusal.Memory = Unit {0}
 
--- the words are no command
-abbrev pub AreRefused : List (List ℕ) → Refusal → Type 0
-AreRefused words why = (named_files words ≡ None) × (why ≡ refusal.Words)
-
--- the words are no command, or they name files in which there is this cause
-abbrev pub IsRefused : Files → List (List ℕ) → Refusal → Type 0
-IsRefused files words why = AreRefused words why ⊎ ((named : Named) × (named_files words ≡ Some named) × IsCause files named why)
-
--- words and files give a program and items, or are refused for this cause; want of memory is free
-abbrev pub Loads : {P : Type 0} → (P → Named × (Program × List Item)) → Files → List (List ℕ) → Result P Refusal → Type 0
-Loads view files words (Ok x) = IsInput files words (view x).0 (view x).1.0 (view x).1.1
-Loads view files words (Err refusal.Memory) = Unit {0}
-Loads view files words (Err why) = IsRefused files words why
-
--- words are refused exactly where they name no files; want of memory is free
-abbrev pub WordsTold : {P : Type 0} → List (List ℕ) → Result P Refusal → Type 0
-WordsTold words (Ok x) = (named : Named) × (named_files words ≡ Some named)
-WordsTold words (Err refusal.Words) = named_files words ≡ None
-WordsTold words (Err refusal.Memory) = Unit {0}
-WordsTold words (Err why) = (named : Named) × (named_files words ≡ Some named)
-
--- a missing file raises the count of names missed, a failed read that of faults, and nothing else raises one
-abbrev pub RefusalCounts : {P : Type 0} → Result P Refusal → Moved → Type 0
-RefusalCounts (Err (refusal.Missing name)) m = (m.faults_now ≡ m.faults_before) × (m.missed_before ≤ m.missed_now) × Rose m.missed_before m.missed_now
-RefusalCounts (Err (refusal.Read name)) m = (m.faults_before ≤ m.faults_now) × Rose m.faults_before m.faults_now × (m.missed_now ≡ m.missed_before)
-RefusalCounts r m = (m.faults_now ≡ m.faults_before) × (m.missed_now ≡ m.missed_before)
-
--- the file that a failed read names is the one begun last
-abbrev pub NamesLast : {P : Type 0} → Result P Refusal → Option Told → Type 0
-NamesLast (Err (refusal.Read name)) told = IfSome told (λ t. t.name ≡ name)
-NamesLast r told = Unit {0}
+-- the status of each refusal
+abbrev pub status_of : Refusal → ℕ
+status_of refusal.Words = 1
+status_of (refusal.Missing name) = 8
+status_of (refusal.Read name) = 5
+status_of (refusal.TooLong name) = 9
+status_of (refusal.Program name why) = 2
+status_of (refusal.Events name line) = 3
+status_of refusal.Memory = 4

@@ -1,5 +1,5 @@
 pub mod Inputs
 pub mod Causes
+pub mod Promise
+pub mod Completing
 pub mod Steps
-pub mod Outcomes
-pub mod Finishing

@@ -1,12 +1,13 @@
-ghost use Rattle.std.specs.Prelude.{◌≡◌, ◌<◌, ◌≤◌, length, map, slice_get, string_bytes, false, Some, IfErr, IfOk, IfSome};
+ghost use Rattle.std.specs.Prelude.{◌≡◌, ◌<◌, ◌≤◌, length, map, nat_eq, string_bytes, IfOk, IfSome};
 ghost use Rattle.std.specs.List.{AllByRecursion};
+ghost use Rattle.outside.specs.Counts.{Counts};
 ghost use Rattle.outside.specs.Told.{files_of};
 ghost use Rattle.typed_program.specs.Typed.{Typed};
 ghost use Rattle.naive_meaning.specs.Fits.{ItemsFit};
 ghost use Rattle.evt_text.specs.Forms.{AreEventTypes};
 ghost use Rattle.run_face.specs.Words.{settings_of};
-ghost use Rattle.correlator_run.specs.Causes.{file_of, is_words, Loads, NamesLast, RefusalCounts, WordsTold};
-ghost use Rattle.correlator_run.specs.Steps.{FileTold, ItemsTold, ProgramTold, TextsTold, WordsRead, named_of, refused};
+ghost use Rattle.correlator_run.specs.Causes.{file_of};
+ghost use Rattle.correlator_run.specs.Steps.{FileRead, IsRefusal, ItemsTold, Loads, ProgramTold, TextsRead, WordsRead, code_of, named_of};
 
 use crate::Refusal;
 use epl_values::{Bytes, List, Memory, Text, Texts};
@@ -48,17 +49,11 @@ fn words_of(alloc: Global, words: &[String]) -> Result<RunWords, Refusal>
 
 /// The bytes of a file, at most so many.
 fn file<H: Shelf>(alloc: Global, shelf: &mut H, name: &Text, most: usize) -> Result<Bytes, Refusal>
-    ensures told { IfSome (files_of (H.told shelf.old)) (λ files. FileTold (files name.now) name.now most result) }
+    ensures read { FileRead (files_of (H.told shelf.old)) (H.told shelf.new) name.now most result }
     ensures within { IfOk result (λ bytes. length bytes ≤ most) }
-    ensures never_words { IfErr result (λ why. is_words why ≡ false) }
     ensures files { files_of (H.told shelf.new) ≡ files_of (H.told shelf.old) }
-    ensures counts { RefusalCounts result (record {
-      faults_before = H.faults shelf.old;
-      faults_now = H.faults shelf.new;
-      missed_before = H.missed shelf.old;
-      missed_now = H.missed shelf.new;
-    }) }
-    ensures begun { NamesLast result (H.told shelf.new) }
+    ensures faults { Counts (nat_eq (code_of result) 5) (H.faults shelf.old) (H.faults shelf.new) }
+    ensures missed { Counts (nat_eq (code_of result) 8) (H.missed shelf.old) (H.missed shelf.new) }
 {
     let own_name = Text::of(alloc, name.as_str())?;
     match read_whole(alloc, shelf, name.as_str(), most) {
@@ -72,18 +67,12 @@ fn file<H: Shelf>(alloc: Global, shelf: &mut H, name: &Text, most: usize) -> Res
 
 /// The bytes of the program files, in order.
 fn texts_of<H: Shelf>(alloc: Global, shelf: &mut H, names: &Texts) -> Result<List<Bytes>, Refusal>
-    ensures told { IfSome (files_of (H.told shelf.old)) (λ files. TextsTold files names.now result) }
+    ensures read { TextsRead (files_of (H.told shelf.old)) (H.told shelf.new) names.now result }
     ensures short { IfOk result (AllByRecursion (λ text. length text < 4294967295)) }
     ensures count { IfOk result (λ texts. length texts ≤ length names.now) }
-    ensures never_words { IfErr result (λ why. is_words why ≡ false) }
     ensures files { files_of (H.told shelf.new) ≡ files_of (H.told shelf.old) }
-    ensures counts { RefusalCounts result (record {
-      faults_before = H.faults shelf.old;
-      faults_now = H.faults shelf.new;
-      missed_before = H.missed shelf.old;
-      missed_now = H.missed shelf.new;
-    }) }
-    ensures begun { NamesLast result (H.told shelf.new) }
+    ensures faults { Counts (nat_eq (code_of result) 5) (H.faults shelf.old) (H.faults shelf.new) }
+    ensures missed { Counts (nat_eq (code_of result) 8) (H.missed shelf.old) (H.missed shelf.new) }
 {
     let mut texts = List::new(alloc);
     'names: for name in names.as_slice() {
@@ -93,42 +82,38 @@ fn texts_of<H: Shelf>(alloc: Global, shelf: &mut H, names: &Texts) -> Result<Lis
     Ok(texts)
 }
 
-/// The number of the program file in which a fault is.
-fn file_of(why: ProgramFault) -> usize
+/// The place of the program file in which a fault is; want of memory is in none.
+fn file_of(why: ProgramFault) -> Option<usize>
     ensures { result ≡ file_of why }
 {
     match why {
-        ProgramFault::Lex(file, _) => file as usize,
-        ProgramFault::Syntax(file, _) => file as usize,
-        ProgramFault::Typing(_, file, _) => file as usize,
-        ProgramFault::Unbuilt(file, _) => file as usize,
-        ProgramFault::Memory => 0,
+        ProgramFault::Lex(file, _) => Some(file as usize),
+        ProgramFault::Syntax(file, _) => Some(file as usize),
+        ProgramFault::Typing(_, file, _) => Some(file as usize),
+        ProgramFault::Unbuilt(file, _) => Some(file as usize),
+        ProgramFault::Memory => None,
     }
 }
 
-/// A copy of the name at a place.
-fn name_at(alloc: Global, names: &Texts, place: usize) -> Result<Text, Memory>
-    ensures { IfOk result (λ name. slice_get names.now place ≡ Some name) }
+/// The refusal of program files for this cause, by the name of the file in which it is.
+fn refusal_of(alloc: Global, names: &Texts, why: ProgramFault) -> Result<Refusal, Memory>
+    requires { IfSome (file_of why) (λ file. file < length names.now) }
+    ensures { IfOk result (IsRefusal names.now why) }
 {
-    match names.as_slice().get(place) {
-        Some(name) => Text::of(alloc, name.as_str()),
-        None => Err(Memory),
+    match file_of(why) {
+        None => Ok(Refusal::Memory),
+        Some(file) => {
+            let name = Text::of(alloc, names.as_slice()[file].as_str())?;
+            Ok(Refusal::Program(name, why))
+        }
     }
 }
 
-fn refused(name: Text, why: ProgramFault) -> Refusal
-    ensures { result ≡ refused name why }
-{
-    match why {
-        ProgramFault::Memory => Refusal::Memory,
-        _ => Refusal::Program(name, why),
-    }
-}
-
-#[tactic(auto, using(crate::proofs::Loading::told_refused))]
+#[tactic(auto, using(crate::proofs::Faults::told_refused))]
 fn program_of(alloc: Global, names: &Texts, texts: &List<Bytes>) -> Result<Program, Refusal>
     requires short { AllByRecursion (λ text. length text < 4294967295) texts.now }
     requires few { length texts.now ≤ 64 }
+    requires named { length texts.now ≤ length names.now }
     ensures told { ProgramTold texts.now names.now result }
     ensures typed { IfOk result Typed }
     ensures types { IfOk result (λ p. AreEventTypes p.types) }
@@ -136,10 +121,7 @@ fn program_of(alloc: Global, names: &Texts, texts: &List<Bytes>) -> Result<Progr
 {
     match program_from(alloc, texts) {
         Ok(program) => Ok(program),
-        Err(why) => {
-            let name = name_at(alloc, names, file_of(why))?;
-            Err(refused(name, why))
-        }
+        Err(why) => Err(refusal_of(alloc, names, why)?),
     }
 }
 
@@ -159,21 +141,15 @@ fn items_of(alloc: Global, name: &Text, program: &Program, bytes: &[u8]) -> Resu
 
 /// The program and the items that the words and the files give.
 pub fn load<H: Shelf>(alloc: Global, words: &[String], shelf: &mut H) -> Result<Input, Refusal>
-    ensures loads { IfSome (files_of (H.told shelf.old)) (λ files. Loads (λ x. (named_of x.named, (x.program, x.items))) files (map string_bytes words.now) result) }
+    ensures loads { Loads (λ x. (named_of x.named, (x.program, x.items))) (map string_bytes words.now) (files_of (H.told shelf.old)) (H.told shelf.new) result }
     ensures typed { IfOk result (λ x. Typed x.program) }
     ensures fits { IfOk result (λ x. ItemsFit x.program x.items) }
     ensures monitors { IfOk result (λ x. length x.program.monitors ≤ 65535) }
     ensures settings { IfOk result (λ x. x.named.settings ≡ settings_of (named_of x.named)) }
     ensures fuel { IfOk result (λ x. x.named.settings.fuel ≤ 20000000) }
     ensures contexts { IfOk result (λ x. x.named.settings.contexts ≡ 32) }
-    ensures words { WordsTold (map string_bytes words.now) result }
-    ensures counts { RefusalCounts result (record {
-      faults_before = H.faults shelf.old;
-      faults_now = H.faults shelf.new;
-      missed_before = H.missed shelf.old;
-      missed_now = H.missed shelf.new;
-    }) }
-    ensures begun { NamesLast result (H.told shelf.new) }
+    ensures faults { Counts (nat_eq (code_of result) 5) (H.faults shelf.old) (H.faults shelf.new) }
+    ensures missed { Counts (nat_eq (code_of result) 8) (H.missed shelf.old) (H.missed shelf.new) }
 {
     let named = words_of(alloc, words)?;
     let events = file(alloc, shelf, &named.events, MOST_EVENTS)?;

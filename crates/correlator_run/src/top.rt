@@ -1,11 +1,11 @@
-ghost use Rattle.std.specs.Prelude.{◌≡◌, ◌≢◌, ◌≤◌, ◌⊎◌, Some, length, map, string_bytes, IfOk, IfSome};
+ghost use Rattle.std.specs.Prelude.{◌≡◌, map, nat_eq, string_bytes, if◌then◌else◌, IfOk};
 ghost use Rattle.std.specs.List.{list_any};
-ghost use Rattle.outside.specs.Counts.{Rose};
+ghost use Rattle.outside.specs.Counts.{Counts};
 ghost use Rattle.outside.specs.Told.{files_of};
 ghost use Rattle.naive_meaning.specs.Report.{report_of};
-ghost use Rattle.correlator_run.specs.Causes.{NamesLast, RefusalCounts, WordsTold};
-ghost use Rattle.correlator_run.specs.Outcomes.{Completes, KeptOrRefused, ReportTaken, Stayed, TextTaken, WordsStatus, status_done, status_of};
-ghost use Rattle.correlator_run.specs.Finishing.{Finishes, Gives};
+ghost use Rattle.correlator_run.specs.Causes.{status_of};
+ghost use Rattle.correlator_run.specs.Promise.{IsWritten, KeepsPromise, is_spent};
+ghost use Rattle.correlator_run.specs.Steps.{Finishes, code_of};
 
 use crate::Refusal;
 use crate::load::{Input, load};
@@ -34,17 +34,10 @@ struct Finished {
 }
 
 fn finish<H: Shelf>(alloc: Global, words: &[String], shelf: &mut H) -> Result<Finished, Refusal>
-    ensures finishes { IfSome (files_of (H.told shelf.old)) (λ files. Finishes (λ f. f.kept) files (map string_bytes words.now) result) }
-    ensures gives { IfSome (files_of (H.told shelf.old)) (λ files. IfOk result (λ f. Gives files (map string_bytes words.now) f.program)) }
+    ensures finishes { Finishes (λ f. (f.program, f.kept)) (map string_bytes words.now) (files_of (H.told shelf.old)) (H.told shelf.new) result }
     ensures text { IfOk result (λ f. f.text ≡ report_of f.program f.kept) }
-    ensures words { WordsTold (map string_bytes words.now) result }
-    ensures counts { RefusalCounts result (record {
-      faults_before = H.faults shelf.old;
-      faults_now = H.faults shelf.new;
-      missed_before = H.missed shelf.old;
-      missed_now = H.missed shelf.new;
-    }) }
-    ensures begun { NamesLast result (H.told shelf.new) }
+    ensures faults { Counts (nat_eq (code_of result) 5) (H.faults shelf.old) (H.faults shelf.new) }
+    ensures missed { Counts (nat_eq (code_of result) 8) (H.missed shelf.old) (H.missed shelf.new) }
 {
     let Input {
         named,
@@ -80,10 +73,12 @@ fn any_spent(contexts: &[ContextRecord]) -> bool
     contexts.iter().any(|context| context.spent)
 }
 
-fn status_done(kept: &Record) -> u8
-    ensures { result ≡ status_done kept.now }
+/// The status of a run whose report is written; tells where a context is spent.
+fn tell_done<V: Sink>(err: &mut V, kept: &Record) -> u8
+    ensures { result ≡ (if is_spent kept.now then 7 else 0) }
 {
     if any_spent(kept.contexts.as_slice()) {
+        tell_spent(err);
         7
     } else {
         0
@@ -91,29 +86,16 @@ fn status_done(kept: &Record) -> u8
 }
 
 /// Writes the report, and tells what became of it.
-fn write<W: Sink, V: Sink>(out: &mut W, err: &mut V, done: Finished) -> Outcome
-    requires { done.text ≡ report_of done.program done.kept }
-    ensures kept { result.kept ≡ Some done.kept }
-    ensures status { (result.status ≡ status_done done.kept) ⊎ (result.status ≡ 6) }
-    ensures taken { TextTaken result.status (report_of done.program done.kept) (W.taken out.old) (W.taken out.new) }
-    ensures fault { result.status ≡ 6 → Rose (W.faults out.old) (W.faults out.new) }
-    ensures room { IfSome (W.room out.old) (λ r. length (report_of done.program done.kept) ≤ r → result.status ≢ 6) }
+fn write<W: Sink, V: Sink>(out: &mut W, err: &mut V, kept: &Record, text: &[u8]) -> u8
+    ensures written { IsWritten result kept.now text.now (record { faults = W.faults out.old; taken = W.taken out.old; room = W.room out.old }) (record { faults = W.faults out.new; taken = W.taken out.new; room = W.room out.new }) }
+    ensures faults { Counts (nat_eq result 6) (W.faults out.old) (W.faults out.new) }
 {
-    let Finished { kept, text, .. } = done;
-    if put_all(out, text.as_slice()).is_err() {
-        tell_write_fault(err);
-        return Outcome {
-            status: 6,
-            kept: Some(kept),
-        };
-    }
-    let status = status_done(&kept);
-    if status == 7 {
-        tell_spent(err);
-    }
-    Outcome {
-        status,
-        kept: Some(kept),
+    match put_all(out, text) {
+        Err(_) => {
+            tell_write_fault(err);
+            6
+        }
+        Ok(()) => tell_done(err, kept),
     }
 }
 
@@ -129,16 +111,22 @@ pub fn correlate_serial<H: Shelf, W: Sink, V: Sink>(
     out: &mut W,
     err: &mut V,
 ) -> Outcome
-    ensures headline { IfSome (files_of (H.told shelf.old)) (λ files. KeptOrRefused files (map string_bytes words.now) result.status result.kept) }
-    ensures report { ReportTaken (files_of (H.told shelf.old)) (map string_bytes words.now) (W.room out.old) result.status result.kept (W.taken out.old) (W.taken out.new) }
-    ensures words { WordsStatus (map string_bytes words.now) result.status }
-    ensures missing { result.status ≡ 8 → Rose (H.missed shelf.old) (H.missed shelf.new) }
-    ensures read { result.status ≡ 5 → Rose (H.faults shelf.old) (H.faults shelf.new) }
-    ensures write { result.status ≡ 6 → Rose (W.faults out.old) (W.faults out.new) }
-    ensures complete { Stayed (H.faults shelf.old) (H.faults shelf.new) → Stayed (W.faults out.old) (W.faults out.new) → Completes (files_of (H.told shelf.old)) (map string_bytes words.now) result.status }
+    ensures { KeepsPromise (map string_bytes words.now) (record { shelf = record { faults = H.faults shelf.old; missed = H.missed shelf.old; told = H.told shelf.old }; out = record { faults = W.faults out.old; taken = W.taken out.old; room = W.room out.old } }) (record { shelf = record { faults = H.faults shelf.new; missed = H.missed shelf.new; told = H.told shelf.new }; out = record { faults = W.faults out.new; taken = W.taken out.new; room = W.room out.new } }) result.status result.kept }
 {
     match finish(alloc, words, shelf) {
-        Ok(done) => write(out, err, done),
+        Ok(
+            Finished {
+                program: _,
+                kept,
+                text,
+            },
+        ) => {
+            let status = write(out, err, &kept, text.as_slice());
+            Outcome {
+                status,
+                kept: Some(kept),
+            }
+        }
         Err(why) => {
             tell_refusal(err, &why);
             Outcome {

@@ -1,13 +1,26 @@
-ghost use Rattle.std.specs.Prelude.{◌≡◌};
+ghost use Rattle.std.specs.Prelude.{◌≡◌, ◌≤◌, length, IfOk};
 
 use crate::{Found, Got, Shelf, Source};
 use epl_values::Text;
-use std::fs;
 use std::io::{ErrorKind, Read};
 use std::rt::Files;
+use std::{fs, io};
+
+/// Reads, and reads again where a signal interrupts it.
+fn read_again<F: Read>(file: &mut F, into: &mut [u8]) -> io::Result<usize>
+    ensures { IfOk result (λ count. count ≤ length into.old) }
+{
+    'tries: for _ in 0..u64::MAX {
+        match file.read(into) {
+            Err(error) if error.kind() == ErrorKind::Interrupted => {}
+            answer => return answer,
+        }
+    }
+    file.read(into)
+}
 
 /// Real files. It tells nothing of what they hold. An open that finds no file counts as a name missed, and every
-/// other open or read that fails as a fault.
+/// other open or read that fails as a fault. An open or read that a signal interrupts is made again.
 #[derive(Drop)]
 pub struct DiskShelf<R: Files + Drop> {
     rt: R,
@@ -42,7 +55,7 @@ impl<R: Files + Drop> Source for DiskShelf<R> {
     fn read(&mut self, into: &mut [u8]) -> Got {
         let answer = match &mut self.file {
             None => return Got::End,
-            Some(file) => file.read(into),
+            Some(file) => read_again(file, into),
         };
         match answer {
             Ok(0) => Got::End,

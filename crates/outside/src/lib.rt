@@ -24,4 +24,3 @@ pub use store::{StoredFile, StoredFiles};
 pub use stream_sink::StreamSink;
 pub use traits::{Found, Got, Put, Shelf, Sink, Source};
 pub use whole::{FileFault, WriteFault, put_all, read_whole};
-

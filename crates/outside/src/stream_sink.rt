@@ -1,11 +1,24 @@
-ghost use Rattle.std.specs.Prelude.{◌≡◌, ◌<◌, ◌≤◌, length, IfSome};
+ghost use Rattle.std.specs.Prelude.{◌≡◌, ◌<◌, ◌≤◌, length, IfOk, IfSome};
 
 use crate::{Put, Sink};
 use std::io;
-use std::io::Write;
+use std::io::{ErrorKind, Write};
+
+/// Writes a front of the piece, and writes again where a signal interrupts it.
+fn write_again<R: Print>(rt: &R, piece: &[u8]) -> io::Result<usize>
+    ensures { IfOk result (λ count. count ≤ length piece.now) }
+{
+    'tries: for _ in 0..u64::MAX {
+        match io::writer(rt).write(piece) {
+            Err(error) if error.kind() == ErrorKind::Interrupted => {}
+            answer => return answer,
+        }
+    }
+    io::writer(rt).write(piece)
+}
 
 /// The standard output or the standard error. It tells nothing of what was taken. The standard error takes a
-/// piece whole, and fails at one that is not UTF-8.
+/// piece whole, and fails at one that is not UTF-8. A write that a signal interrupts is made again.
 #[derive(Drop)]
 pub struct StreamSink<R: Print + Eprint + Drop> {
     rt: R,
@@ -35,7 +48,7 @@ impl<R: Print + Eprint + Drop> StreamSink<R> {
             self.rt.eprint(text).ok()?;
             return Some(piece.len());
         }
-        match io::writer(&self.rt).write(piece) {
+        match write_again(&self.rt, piece) {
             Ok(count) if count > 0 => Some(count),
             _ => None,
         }

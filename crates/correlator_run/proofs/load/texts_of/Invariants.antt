@@ -1,12 +1,12 @@
-use Rattle.std.proofs.Common.{◌≡◌, ℕ, ◌<◌, ◌≤◌, List, length, take, IfSome}
+use Rattle.std.proofs.Common.{◌≡◌, ℕ, ◌<◌, ◌≤◌, List, length, map, take}
 use Rattle.std.specs.List.{AllByRecursion}
 use Rattle.outside.specs.Told.{files_of}
-use Rattle.correlator_run.specs.Inputs.{AreTexts, most_program}
+use Rattle.correlator_run.specs.Inputs.{AreRead, wanted_program}
 use Rattle.correlator_run.proofs.load.texts_of.Given as goal
 
 abbrev pub invariant-names : goal.invariant-names
 invariant-names g l = record {
-  texts : IfSome (files_of (g.H.Source.told l.fn.shelf)) (λ files. AreTexts files most_program (take l.name-index l.names) l.texts);
+  texts : AreRead (files_of (g.H.Source.told l.fn.shelf)) (map wanted_program (take l.name-index l.names)) l.texts;
   short : AllByRecursion (λ (text : List ℕ). length text < 4294967295) l.texts;
   count : length l.texts ≤ l.name-index;
   files : files_of (g.H.Source.told l.shelf) ≡ files_of (g.H.Source.told l.fn.shelf);
