@@ -1,8 +1,7 @@
 //! Answers of rows: lines that begin with `= `.
 
 use anyhow::Result;
-use epl_lexer::LexFault;
-use expr_parser::ParseFault;
+use epl_syntax::{LexFault, ParseFault};
 use span_text::Spot;
 use std::alloc::{AllocError, Global};
 

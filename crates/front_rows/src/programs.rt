@@ -1,16 +1,13 @@
 //! What the checker and the reader of programs tell of program files.
 
-ghost use Rattle.std.specs.Prelude.{◌<◌, length, IfOk};
+ghost use Rattle.std.specs.Prelude.{◌<◌, ◌≤◌, length, IfOk};
 ghost use Rattle.std.specs.List.{AllByRecursion};
 
 use crate::outcome::refused_in;
-use crate::tokens::read_tokens;
 use anyhow::{Result, bail};
-use decl_parser::unit;
-use epl_lexer::LexFault;
-use epl_tree::{Unit, Units};
+use epl_syntax::{SyntaxFault, discard, units};
+use epl_tree::Units;
 use epl_values::{Bytes, List};
-use expr_parser::ParseFault;
 use program_check::check;
 use program_reader::{ProgramFault, program_from};
 use std::alloc::{AllocError, Global};
@@ -30,11 +27,10 @@ pub fn table_told(alloc: Global, files: &[Vec<u8>]) -> Result<String> {
 }
 
 fn gathered(alloc: Global, files: &[Vec<u8>]) -> Result<Table, ProgramFault> {
-    let units = units_of(alloc, files)?;
-    if units.len() > MOST_FILES {
-        return Err(ProgramFault::Memory);
-    }
-    match gather(alloc, &units) {
+    let trees = units_of(alloc, files)?;
+    let told = gather(alloc, &trees);
+    discard(trees);
+    match told {
         Ok(table) => Ok(table),
         Err(fault) => Err(typing(fault)),
     }
@@ -71,11 +67,8 @@ pub fn check_told(alloc: Global, files: &[Vec<u8>]) -> Result<String> {
 }
 
 fn checked(alloc: Global, files: &[Vec<u8>]) -> Result<Program, ProgramFault> {
-    let units = units_of(alloc, files)?;
-    if units.len() > MOST_FILES {
-        return Err(ProgramFault::Memory);
-    }
-    match check(alloc, &units) {
+    let trees = units_of(alloc, files)?;
+    match check(alloc, trees) {
         Ok(program) => Ok(program),
         Err(fault) => Err(typing(fault)),
     }
@@ -89,26 +82,24 @@ fn typing(fault: CheckFault) -> ProgramFault {
 }
 
 /// The trees of files.
-fn units_of(alloc: Global, files: &[Vec<u8>]) -> Result<Units, ProgramFault> {
-    let mut units = Units::new(alloc);
-    let mut place: u32 = 0;
-    for file in files {
-        units.push(unit_of(alloc, place, file.as_slice())?)?;
-        place = place.wrapping_add(1);
+fn units_of(alloc: Global, files: &[Vec<u8>]) -> Result<Units, ProgramFault>
+    ensures { IfOk result (λ trees. length trees ≤ 64) }
+{
+    let texts = texts_of(alloc, files)?;
+    if texts.len() > MOST_FILES {
+        return Err(ProgramFault::Memory);
     }
-    Ok(units)
+    match units(alloc, &texts) {
+        Ok(trees) => Ok(trees),
+        Err(fault) => Err(unread(fault)),
+    }
 }
 
-fn unit_of(alloc: Global, place: u32, bytes: &[u8]) -> Result<Unit, ProgramFault> {
-    let tokens = match read_tokens(alloc, bytes) {
-        Ok(tokens) => tokens,
-        Err(LexFault::Lex(spot)) => return Err(ProgramFault::Lex(place, spot)),
-        Err(LexFault::Memory) => return Err(ProgramFault::Memory),
-    };
-    match unit(alloc, &tokens) {
-        Ok(tree) => Ok(tree),
-        Err(ParseFault::Syntax(spot)) => Err(ProgramFault::Syntax(place, spot)),
-        Err(ParseFault::Memory) => Err(ProgramFault::Memory),
+fn unread(fault: SyntaxFault) -> ProgramFault {
+    match fault {
+        SyntaxFault::Lex(file, spot) => ProgramFault::Lex(file, spot),
+        SyntaxFault::Syntax(file, spot) => ProgramFault::Syntax(file, spot),
+        SyntaxFault::Memory => ProgramFault::Memory,
     }
 }
 

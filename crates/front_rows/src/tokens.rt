@@ -3,7 +3,8 @@
 use crate::expr_outline::put_quoted;
 use crate::outcome::no_tokens;
 use anyhow::{Result, bail};
-use epl_lexer::{KEYWORDS, Kind, LexFault, SIGNS, Token, Tokens, tokens_of, tokens_of_bytes};
+use epl_lexer::{KEYWORDS, Kind, SIGNS, Token, Tokens};
+use epl_syntax::{LexFault, tokens_of, tokens_of_bytes};
 use std::alloc::{AllocError, Global};
 use std::fmt::Write;
 

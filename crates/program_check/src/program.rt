@@ -1,8 +1,10 @@
 ghost use Rattle.std.specs.Prelude.{◌≤◌, length, IfOk};
 ghost use Rattle.stmt_check.specs.Programs.{Checks};
 ghost use Rattle.typed_program.specs.Typed.{Typed};
+ghost use Rattle.name_resolution.specs.Resolves.{Resolves};
 
 use epl_tree::Units;
+use name_resolution::accepted_programs_resolve;
 use program_laws::accepted_programs_are_typed;
 use std::alloc::Global;
 use type_table::CheckFault;
@@ -10,12 +12,14 @@ use typed_program::Program;
 
 /// The typed program of the files, in their order, or the first of their typing faults with its code, the place of its file
 /// among them and its place there (`docs/TYPES.md`). What is given is well typed: names are numbers of what is there, and
-/// expressions, locals and globals have their shapes; no rule behind a code is broken, and the limits hold. The trees end here.
+/// expressions, locals and globals have their shapes; no rule behind a code is broken, and the limits hold. It is the trees with names resolved. The trees end here.
 pub fn check(alloc: Global, units: Units) -> Result<Program, CheckFault>
     requires { length units ≤ 4294967295 }
     ensures told { Checks result units }
     ensures typed { IfOk result Typed }
+    ensures resolved { IfOk result (λ program. Resolves units program) }
 {
     accepted_programs_are_typed();
+    accepted_programs_resolve();
     stmt_check::check(alloc, &units)
 }
