@@ -1,54 +1,21 @@
 -- Expressions, places, locals and blocks of a body.
-use Rattle.std.proofs.Common.{◌≡◌, ℕ, ◌+◌, min, Bool, true, false, if◌then◌else◌, List, [], ◌∷◌, ◌++◌, map, length, take, Option, Some, None, refl, sym, ap, subst, ◌∙◌}
-use Rattle.std.specs.List.{AllByRecursion}
-use Rattle.std.specs.Option.{option_map}
-use Rattle.std.specs.Str.{bytes_eq}
-use Rattle.std.proofs.lemmas.Slice.Eq.{bytes_eq-Decides}
-use Rattle.span_text.specs.declared.spot.Spot.{Spot}
-use Rattle.epl_values.specs.declared.shape.Shape.{Shape}
-use Rattle.epl_tree.specs.declared.expression.Expr.{Expr}
+use Rattle.name_resolution.proofs.Common.{◌≡◌, ℕ, ◌+◌, min, Bool, true, false, if◌then◌else◌, List, [], ◌∷◌, ◌++◌, map, length, take, Option, Some, None, refl, sym, ap, subst, ◌∙◌, AllByRecursion, option_map, bytes_eq, bytes_eq-Decides, Spot, Shape, Expr, Suffix, Name, Place, TypedEntry, TypedExpr, TypedExpr-F, roll-TypedExpr, out-TypedExpr, out-roll-TypedExpr, TypedLink, TypedNode, out-TypedNode, TypedSuffix, TypedSuffixNode, Site, Variable, Scope, Seen, SeenKind, ActionHead, ParamHead, Found, Arguments, Judged, Walk, Demand, arguments_found, seen, outer_code, variable, root_of, name_found, known, judged, shape_given, Step, demand_before, walk_start, sound, Target, place_found, typed_of, expr_found, State, known_shape, local_read, scoped, Names, any_of, expr_names, suffix_names, place_names, reads, args_read, maybe_read, After, Reads, Named, Meant, Around, typed_form, shape_of, variable_form, ExprIs, ExprsAre, StepsAre, Here, shape_or_integer, leaving, PlaceIs, MaybeIs}
 use Rattle.epl_tree.specs.declared.expression.ExprNode.TheOpen as tree
-use Rattle.epl_tree.specs.declared.expression.Suffix.{Suffix}
-use Rattle.epl_tree.specs.declared.name.Name.{Name}
-use Rattle.epl_tree.specs.declared.statement.Place.{Place}
-use Rattle.typed_program.specs.declared.expression.TypedEntry.{TypedEntry}
-use Rattle.typed_program.specs.declared.expression.TypedExpr.{TypedExpr, TypedExpr-F, roll-TypedExpr, out-TypedExpr, out-roll-TypedExpr}
-use Rattle.typed_program.specs.declared.expression.TypedLink.{TypedLink}
-use Rattle.typed_program.specs.declared.expression.TypedNode.{TypedNode, out-TypedNode}
-use Rattle.typed_program.specs.declared.expression.TypedSuffix.{TypedSuffix}
-use Rattle.typed_program.specs.declared.expression.TypedSuffixNode.{TypedSuffixNode}
-use Rattle.typed_program.specs.declared.program.Site.{Site}
-use Rattle.typed_program.specs.declared.statement.Variable.{Variable}
 use Rattle.typed_program.specs.declared.statement.Variable.TheVariants as var
-use Rattle.type_table.specs.declared.scope.Scope.{Scope}
-use Rattle.type_table.specs.declared.scope.Seen.{Seen}
-use Rattle.type_table.specs.declared.scope.SeenKind.{SeenKind}
-use Rattle.type_table.specs.declared.table.ActionHead.{ActionHead}
-use Rattle.type_table.specs.declared.table.ParamHead.{ParamHead}
-use Rattle.type_table.specs.Found.{Found}
 use Rattle.type_table.specs.Scopes.{with_seen, cut_to}
-use Rattle.expr_rules.specs.declared.calls.Arguments.{Arguments}
 use Rattle.expr_rules.specs.declared.placed.Gives.TheVariants as gives
-use Rattle.expr_rules.specs.declared.placed.Judged.{Judged}
-use Rattle.expr_rules.specs.declared.steps.Walk.{Walk}
-use Rattle.expr_rules.specs.Asked.{Demand, assigned}
-use Rattle.expr_rules.specs.Calls.{arguments_found, no_arguments, call_paths, param_wants, items_of, typed_arguments}
-use Rattle.expr_rules.specs.Names.{seen, outer_code, variable, root_of, name_found}
-use Rattle.expr_rules.specs.Places.{known, placed, judged, shape_given}
-use Rattle.expr_rules.specs.Postfix.{Step, leads, demand_before, walk_start, walked_from, walk_found}
-use Rattle.expr_rules.specs.Then.{and_then, sound}
-use Rattle.expr_check.specs.declared.check.Target.{Target}
-use Rattle.expr_check.specs.Checks.{variable_layer, target_at, target_of, target, place_found}
-use Rattle.expr_check.specs.Expressions.{part_of, step_of, typed_of, expr_found}
-use Rattle.stmt_check.specs.declared.state.State.{State}
-use Rattle.stmt_check.specs.Bodies.{known_shape, local_codes, counted, name_read, seen_local, with_local, local_read, left, scoped, action_named}
+use Rattle.expr_rules.specs.Asked.{assigned}
+use Rattle.expr_rules.specs.Calls.{no_arguments, call_paths, param_wants, items_of, typed_arguments}
+use Rattle.expr_rules.specs.Places.{placed}
+use Rattle.expr_rules.specs.Postfix.{leads, walked_from, walk_found}
+use Rattle.expr_rules.specs.Then.{and_then}
+use Rattle.expr_check.specs.Checks.{variable_layer, target_at, target_of, target}
+use Rattle.expr_check.specs.Expressions.{part_of, step_of}
+use Rattle.stmt_check.specs.Bodies.{local_codes, counted, name_read, seen_local, with_local, left, action_named}
 use Rattle.stmt_check.specs.Bodies.{Around as Body}
-use Rattle.stmt_check.specs.Captures.{Names, any_of, expr_names, suffix_names, place_names}
-use Rattle.stmt_check.specs.Statements.{reads, args_read, maybe_read}
-use Rattle.stmt_check.specs.Steps.{After, Reads, ◌>>=◌, pure, looks, tells, changes, within, optional}
-use Rattle.name_resolution.specs.Names.{Named, Meant, Around, held, meaning_of}
-use Rattle.name_resolution.specs.Expressions.{form_of, typed_form, shape_of, variable_form, ExprIs, ExprsAre, StepsAre}
-use Rattle.name_resolution.specs.Statements.{Here, shape_or_integer, leaving, PlaceIs, MaybeIs}
+use Rattle.stmt_check.specs.Steps.{◌>>=◌, pure, looks, tells, changes, within, optional}
+use Rattle.name_resolution.specs.Names.{held, meaning_of}
+use Rattle.name_resolution.specs.Expressions.{form_of}
 use Rattle.name_resolution.specs.Statements.{with_local as local_more}
 use Rattle.name_resolution.specs.Statements as rule
 use Rattle.name_resolution.proofs.Sure.{Sure, sure_sound, sure_then, sure_as, no_both, no_told}

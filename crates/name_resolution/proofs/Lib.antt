@@ -1,3 +1,4 @@
+mod Common
 pub mod Sure
 pub mod Through
 pub mod Agreeing

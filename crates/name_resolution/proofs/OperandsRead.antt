@@ -1,36 +1,17 @@
 -- What is evaluated at an `on`, durations and operands.
-use Rattle.std.proofs.Common.{◌≡◌, ℕ, zero, suc, ◌+◌, ◌-◌, ◌*◌, ◌==◌, ◌<◌, ◌≤◌, pos, min, nat_le, Bool, true, false, ◌&&◌, not, if◌then◌else◌, List, [], ◌∷◌, ◌++◌, length, take, drop, slice_get, Option, Some, None, refl, subst, sym, ap, ◌∙◌, arith, append_assoc}
-use Rattle.std.proofs.lemmas.Bool.Decides.{nat_tests}
-use Rattle.std.proofs.lemmas.List.{length-append, append-nil}
-use Rattle.std.specs.List.{list_any, list_all, position}
-use Rattle.span_text.specs.declared.spot.Spot.{Spot}
-use Rattle.epl_values.specs.declared.shape.Shape.{Shape}
+use Rattle.name_resolution.proofs.Common.{◌≡◌, ℕ, zero, suc, ◌+◌, ◌-◌, ◌*◌, ◌==◌, ◌<◌, ◌≤◌, pos, min, nat_le, Bool, true, false, ◌&&◌, not, if◌then◌else◌, List, [], ◌∷◌, ◌++◌, length, take, drop, slice_get, Option, Some, None, refl, subst, sym, ap, ◌∙◌, arith, append_assoc, nat_tests, length-append, append-nil, list_any, Spot, Shape, Duration, Expr, out-Expr, Link, out-Link, TypedEntry, TypedExpr, TypedExpr-F, roll-TypedExpr, out-TypedExpr, out-roll-TypedExpr, TypedLink, out-TypedLink, TypedNode, out-TypedNode, TypedSuffix, TypedSuffixNode, Operand, Scope, Table, Found, told, Judged, typed_of, expr_found, Sofar, Went, went, Names, expr_names, duration_names, Named, Around, Form, number_behind, typed_form, ExprIs, Inside, DurationIs, OperandIs}
+use Rattle.std.specs.List.{list_all, position}
 use Rattle.epl_values.specs.declared.shape.Shape.TheVariants as shape
-use Rattle.epl_tree.specs.declared.event.Duration.{Duration}
 use Rattle.epl_tree.specs.declared.event.DurationNode.{DurationNode}
 use Rattle.epl_tree.specs.declared.event.DurationNode.TheVariants as duration
-use Rattle.epl_tree.specs.declared.expression.Expr.{Expr, out-Expr}
 use Rattle.epl_tree.specs.declared.expression.ExprNode.TheOpen as tree
-use Rattle.epl_tree.specs.declared.expression.Link.{Link, out-Link}
 use Rattle.epl_tree.specs.declared.expression.Operator.{Operator}
 use Rattle.epl_tree.specs.declared.expression.Operator.TheVariants as operator
-use Rattle.typed_program.specs.declared.expression.TypedEntry.{TypedEntry}
-use Rattle.typed_program.specs.declared.expression.TypedExpr.{TypedExpr, TypedExpr-F, roll-TypedExpr, out-TypedExpr, out-roll-TypedExpr}
-use Rattle.typed_program.specs.declared.expression.TypedLink.{TypedLink, out-TypedLink}
-use Rattle.typed_program.specs.declared.expression.TypedNode.{TypedNode, out-TypedNode}
 use Rattle.typed_program.specs.declared.expression.TypedNode.TheOpen as typed
 use Rattle.typed_program.specs.declared.expression.TypedNode.TheVariants as made
-use Rattle.typed_program.specs.declared.expression.TypedSuffix.{TypedSuffix}
-use Rattle.typed_program.specs.declared.expression.TypedSuffixNode.{TypedSuffixNode}
-use Rattle.typed_program.specs.declared.term.Operand.{Operand}
 use Rattle.typed_program.specs.declared.term.Operand.TheVariants as operand
-use Rattle.type_table.specs.declared.scope.Scope.{Scope}
-use Rattle.type_table.specs.declared.table.Table.{Table}
-use Rattle.type_table.specs.Found.{Found, told}
-use Rattle.expr_rules.specs.declared.placed.Judged.{Judged}
 use Rattle.expr_rules.specs.Then.{and_then}
-use Rattle.expr_check.specs.Expressions.{part_of, typed_of, expr_found}
-use Rattle.listener_check.specs.declared.sofar.Sofar.{Sofar}
+use Rattle.expr_check.specs.Expressions.{part_of}
 use Rattle.listener_check.specs.declared.operand.Reached.{Reached}
 use Rattle.listener_check.specs.declared.value.Naming.{Naming}
 use Rattle.listener_check.specs.declared.value.Naming.TheVariants as naming
@@ -42,12 +23,11 @@ use Rattle.listener_check.specs.Names.{mentions}
 use Rattle.listener_check.specs.Operands.{Layer, path_in, placed, bound, signed, last_of, added_operand, links_operand, sum_layer, sum_operand, given_operand, operand_of, is_integer, named_operand, operand_read}
 use Rattle.listener_check.specs.Operands.{layer_of as typed_layer}
 use Rattle.listener_check.specs.Values.{layer_of, is_path, is_path_of, links_naming, form_layer, form_of, naming_of, sign_naming, duration_naming, is_astray, exactly, named_value}
-use Rattle.listener_check.specs.Went.{Went, went, behind, given, ◌>>=◌}
-use Rattle.stmt_check.specs.Captures.{Names, expr_names, duration_node, duration_names}
-use Rattle.name_resolution.specs.Names.{Named, Around}
-use Rattle.name_resolution.specs.Expressions.{Form, number_behind, number, typed_form, ExprIs}
+use Rattle.listener_check.specs.Went.{behind, given, ◌>>=◌}
+use Rattle.stmt_check.specs.Captures.{duration_node}
+use Rattle.name_resolution.specs.Expressions.{number}
 use Rattle.name_resolution.specs.Expressions.{form_of as form}
-use Rattle.name_resolution.specs.Events.{Inside, Given, DurationIs, OperandIs, first_digit, tenths_at, tenths}
+use Rattle.name_resolution.specs.Events.{Given, first_digit, tenths_at, tenths}
 use Rattle.name_resolution.specs.Events as rule
 use Rattle.name_resolution.proofs.Sure.{Sure, sure_sound, sure_then, sure_as, no_told, no_both, no_if}
 use Rattle.name_resolution.proofs.Thus.{Thus, thus_went, thus_then, thus_behind, thus_given, thus_weaker}

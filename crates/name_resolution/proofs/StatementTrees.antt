@@ -1,42 +1,22 @@
 -- Listeners, and every statement.
-use Rattle.std.proofs.Common.{◌≡◌, ℕ, ◌+◌, ◌≤◌, ◌<◌, suc, min, nat_le, Bool, true, false, ◌||◌, not, List, [], ◌∷◌, ◌++◌, map, length, drop, insert, slice_get, Option, Some, None, refl, sym, ap, subst, ◌∙◌, arith}
-use Rattle.std.proofs.lemmas.Bool.{or_left, or_right, or_parts}
-use Rattle.std.proofs.lemmas.Bool.Decides.{nat_tests}
-use Rattle.std.proofs.lemmas.List.{append-nil}
-use Rattle.std.proofs.lemmas.List.Edits.{length-insert}
-use Rattle.std.proofs.lemmas.Option.{slice_get_within}
-use Rattle.span_text.specs.declared.spot.Spot.{Spot}
-use Rattle.epl_tree.specs.declared.event.EventExpr.{EventExpr}
-use Rattle.epl_tree.specs.declared.statement.Listening.{Listening}
+use Rattle.name_resolution.proofs.Common.{◌≡◌, ℕ, ◌+◌, ◌≤◌, ◌<◌, suc, min, nat_le, Bool, true, false, ◌||◌, not, List, [], ◌∷◌, ◌++◌, map, length, drop, insert, slice_get, Option, Some, None, refl, sym, ap, subst, ◌∙◌, arith, or_left, or_right, or_parts, nat_tests, append-nil, length-insert, slice_get_within, Spot, EventExpr, Listening, StmtNode, Site, TypedTerm, Stmt, Seen, Found, Event, Statement, Exactly, inner_of, bound_of, term_found, State, when, short, captured_in, bound_in, callback_start, local_of, Names, either, any_of, if_any, none, expr_names, optional_names, exprs_name, place_names, event_names, asked, exactly, NodePart, OnPart, After, Reads, Named, Around, TermIs, Here, StmtForm, StmtIs, ListenIs, BoundAre}
 use Rattle.epl_tree.specs.declared.statement.Stmt.{Stmt as Tree}
-use Rattle.epl_tree.specs.declared.statement.StmtNode.{StmtNode}
 use Rattle.epl_tree.specs.declared.statement.StmtNode.TheOpen.{StmtNode-F, Listening-F, Stmt-F}
 use Rattle.epl_tree.specs.declared.statement.StmtNode.TheOpen as tree
 use Rattle.epl_tree.specs.declared.statement.StmtNode.TheViews.{roll-StmtNode, roll-Listening, roll-Stmt, out-StmtNode, out-Listening, out-Stmt, out-roll-StmtNode, out-roll-Listening, out-roll-Stmt}
 use Rattle.epl_tree.specs.declared.statement.StmtNode.TheFolds.{fold-StmtNode, fold-Listening, fold-Stmt, fold-roll-StmtNode, fold-roll-Listening, fold-roll-Stmt, ind-Stmt, map-StmtNode, map-Listening, map-Stmt}
-use Rattle.typed_program.specs.declared.program.Site.{Site}
-use Rattle.typed_program.specs.declared.program.TypedTerm.{TypedTerm}
-use Rattle.typed_program.specs.declared.statement.Stmt.{Stmt}
 use Rattle.typed_program.specs.declared.statement.Stmt.TheOpen as typed
 use Rattle.typed_program.specs.declared.statement.Stmt.TheVariants as made
-use Rattle.type_table.specs.declared.scope.Seen.{Seen}
-use Rattle.type_table.specs.Found.{Found}
-use Rattle.expr_rules.specs.Asked.{Event, Statement}
-use Rattle.expr_rules.specs.Asked.{Exactly}
 use Rattle.epl_values.specs.declared.shape.Shape.TheVariants as value
-use Rattle.listener_check.specs.Bound.{inner_of, bound_of}
 use Rattle.listener_check.specs.Bound.{local_of as bound_local}
-use Rattle.listener_check.specs.Terms.{nothing_yet, term_found, term_read}
+use Rattle.listener_check.specs.Terms.{nothing_yet, term_read}
 use Rattle.listener_check.specs.Terms.{part_of as term_part}
-use Rattle.stmt_check.specs.declared.state.State.{State}
 use Rattle.stmt_check.specs.Bodies.{Around as Body}
-use Rattle.stmt_check.specs.Bodies.{in_callback, when, short, captured_in, bound_in, callback_start, local_of, site_of, site_number, with_site, callback_end}
-use Rattle.stmt_check.specs.Captures.{Names, either, any_of, if_any, none, expr_names, optional_names, exprs_name, place_names, event_names, stmt_node, listening_step}
-use Rattle.stmt_check.specs.Statements.{asked, exactly, node_reads, on_codes, callback_read, listen_read, node_names, on_names, Part, NodePart, OnPart, node_part, on_part, stmt_part, part_of}
-use Rattle.stmt_check.specs.Steps.{After, Reads, ◌>>=◌, looks, reads_by, tells, within}
-use Rattle.name_resolution.specs.Names.{Named, Around}
-use Rattle.name_resolution.specs.Events.{TermIs}
-use Rattle.name_resolution.specs.Statements.{Here, StmtForm, StmtIs, ListenIs, stmt_form, BoundAre}
+use Rattle.stmt_check.specs.Bodies.{in_callback, site_of, site_number, with_site, callback_end}
+use Rattle.stmt_check.specs.Captures.{stmt_node, listening_step}
+use Rattle.stmt_check.specs.Statements.{node_reads, on_codes, callback_read, listen_read, node_names, on_names, Part, node_part, on_part, stmt_part, part_of}
+use Rattle.stmt_check.specs.Steps.{◌>>=◌, looks, reads_by, tells, within}
+use Rattle.name_resolution.specs.Statements.{stmt_form}
 use Rattle.name_resolution.specs.Statements.{callback_start as starts}
 use Rattle.name_resolution.specs.Statements as rule
 use Rattle.name_resolution.proofs.Sure.{no_both}

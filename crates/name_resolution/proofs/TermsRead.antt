@@ -1,41 +1,24 @@
 -- Event expressions in which no fault is found are their terms.
-use Rattle.std.proofs.Common.{◌≡◌, ℕ, ◌+◌, min, Bool, true, false, not, ◌||◌, if◌then◌else◌, List, [], ◌∷◌, ◌++◌, map, length, drop, slice_get, Option, Some, None, refl, subst, sym, ap, ◌∙◌}
+use Rattle.name_resolution.proofs.Common.{◌≡◌, ℕ, ◌+◌, min, Bool, true, false, not, ◌||◌, if◌then◌else◌, List, [], ◌∷◌, ◌++◌, map, length, drop, slice_get, Option, Some, None, refl, subst, sym, ap, ◌∙◌, AllByRecursion, Spot, EventShape, Field, Shape, Duration, EventExpr, EventExpr-F, map-EventExpr, roll-EventExpr, fold-roll-EventExpr, EventNode, EventNode-F, map-EventNode, roll-EventNode, fold-EventNode, fold-roll-EventNode, ind-EventExpr, TemplateClause, Comparison, Expr, Name, Operand, Scope, Table, told, event_of, Sofar, Went, went, Names, either, any_of, event_names, duration_names, expr_names, Named, Around, type_named, Inside, DurationIs, OperandIs, TermIs}
 use Rattle.std.proofs.lemmas.List.{length_push}
-use Rattle.std.specs.List.{AllByRecursion}
-use Rattle.span_text.specs.declared.spot.Spot.{Spot}
-use Rattle.epl_values.specs.declared.shape.EventShape.{EventShape}
-use Rattle.epl_values.specs.declared.shape.Field.{Field}
-use Rattle.epl_values.specs.declared.shape.Shape.{Shape}
 use Rattle.epl_tree.specs.declared.event.Constraint.{Constraint}
 use Rattle.epl_tree.specs.declared.event.ConstraintNode.{ConstraintNode}
 use Rattle.epl_tree.specs.declared.event.ConstraintNode.TheVariants as node
-use Rattle.epl_tree.specs.declared.event.Duration.{Duration}
-use Rattle.epl_tree.specs.declared.event.EventExpr.{EventExpr, EventExpr-F, map-EventExpr, roll-EventExpr, out-EventExpr, out-roll-EventExpr, fold-roll-EventExpr}
-use Rattle.epl_tree.specs.declared.event.EventNode.{EventNode, EventNode-F, map-EventNode, roll-EventNode, out-EventNode, out-roll-EventNode, fold-EventNode, fold-roll-EventNode}
+use Rattle.epl_tree.specs.declared.event.EventExpr.{out-EventExpr, out-roll-EventExpr}
+use Rattle.epl_tree.specs.declared.event.EventNode.{out-EventNode, out-roll-EventNode}
 use Rattle.epl_tree.specs.declared.event.EventNode.TheOpen as event
-use Rattle.epl_tree.specs.declared.event.EventNode.TheFolds.{ind-EventExpr}
 use Rattle.epl_tree.specs.declared.event.Range.{Range}
 use Rattle.epl_tree.specs.declared.event.Template.{Template}
-use Rattle.epl_tree.specs.declared.event.TemplateClause.{TemplateClause}
 use Rattle.epl_tree.specs.declared.event.TemplateClause.TheVariants as clause
-use Rattle.epl_tree.specs.declared.expression.Comparison.{Comparison}
 use Rattle.epl_tree.specs.declared.expression.Comparison.TheVariants as comparison
-use Rattle.epl_tree.specs.declared.expression.Expr.{Expr}
-use Rattle.epl_tree.specs.declared.name.Name.{Name}
 use Rattle.typed_program.specs.declared.term.Constraint.{Constraint as Typed}
 use Rattle.typed_program.specs.declared.term.ConstraintNode.{ConstraintNode as TypedNode}
 use Rattle.typed_program.specs.declared.term.ConstraintNode.TheVariants as asked
-use Rattle.typed_program.specs.declared.term.Operand.{Operand}
 use Rattle.typed_program.specs.declared.term.TemplateShape.{TemplateShape}
 use Rattle.typed_program.specs.declared.term.Term.{Term, Term-F, out-Term}
 use Rattle.typed_program.specs.declared.term.Term.TheOpen as layer
 use Rattle.typed_program.specs.declared.term.Term.TheVariants as term
-use Rattle.type_table.specs.declared.scope.Scope.{Scope}
-use Rattle.type_table.specs.declared.table.Table.{Table}
-use Rattle.type_table.specs.Found.{told}
-use Rattle.type_table.specs.Table.{event_of}
 use Rattle.listener_check.specs.declared.constraint.Done.{Done}
-use Rattle.listener_check.specs.declared.sofar.Sofar.{Sofar}
 use Rattle.listener_check.specs.declared.template.Clauses.{Clauses}
 use Rattle.listener_check.specs.Constraints.{number_of, missing_code, field_codes, is_named, none_done, compares_read, lies, lies_read, asked_read, placed_read, missing_read, found_read, numbered_read, constraint_read, constraint_step, constraints_read}
 use Rattle.listener_check.specs.Durations.{duration_read}
@@ -43,10 +26,10 @@ use Rattle.listener_check.specs.Limits.{short, leaf_codes, with_leaf, leaf_read}
 use Rattle.listener_check.specs.Operands.{operand_read}
 use Rattle.listener_check.specs.Templates.{fields_of, name_codes, with_name, name_read, no_clauses, clause_read, clauses_read, template_of, parts_read, typed_read, template_read}
 use Rattle.listener_check.specs.Terms.{Reading, Part, not_codes, each_step, each, behind_step, each_behind, followed_behind, followed_read, joined_behind, or_read, xor_read, may_begin, and_read, not_read, all_read, deadline_read, plain, negated, wait_read, ended_read, group_read, leaf_template_read, node_step, expr_step, part_of}
-use Rattle.listener_check.specs.Went.{Went, went, behind, through, ◌>>=◌}
-use Rattle.stmt_check.specs.Captures.{Names, either, any_of, event_node, event_step, event_names, constraint_names, constraint_node, range_names, clause_names, template_names, limit_names, duration_names, expr_names}
-use Rattle.name_resolution.specs.Names.{Named, Around, held, type_named}
-use Rattle.name_resolution.specs.Events.{Inside, DurationIs, OperandIs, RangeIs, AskIs, field_of, ConstraintsAre, ClausesAre, fields_at, TemplateIs, EventForm, event_form, TermIs, NodeIs, TermsAre}
+use Rattle.listener_check.specs.Went.{behind, through, ◌>>=◌}
+use Rattle.stmt_check.specs.Captures.{event_node, event_step, constraint_names, constraint_node, range_names, clause_names, template_names, limit_names}
+use Rattle.name_resolution.specs.Names.{held}
+use Rattle.name_resolution.specs.Events.{RangeIs, AskIs, field_of, ConstraintsAre, ClausesAre, fields_at, TemplateIs, EventForm, event_form, NodeIs, TermsAre}
 use Rattle.name_resolution.specs.Events as rule
 use Rattle.name_resolution.proofs.Sure.{no_told}
 use Rattle.name_resolution.proofs.Through.{Along, held_all, all_as, append_none, regroup}

@@ -1,9 +1,7 @@
 -- A program of files in which no fault is found is typed.
-use Rattle.std.proofs.Common.{List}
+use Rattle.program_laws.proofs.Common.{List, Program, IsProgram}
 use Rattle.epl_tree.specs.declared.unit.Unit.{Unit as File}
-use Rattle.typed_program.specs.declared.program.Program.{Program}
 use Rattle.typed_program.specs.Typed.{Typed}
-use Rattle.stmt_check.specs.Programs.{IsProgram}
 use Rattle.program_laws.proofs.Shapes.NamedRules.{rules}
 use Rattle.program_laws.proofs.Shapes.Accepted.{program_has_shapes}
 use Rattle.program_laws.proofs.Lawful.Whole.{law_rules}

@@ -1,3 +1,4 @@
+mod Common
 pub mod Exprs
 pub mod Terms
 pub mod Shapes

@@ -1,5 +1,6 @@
 -- Where all names are known: the table and the scope of a text, and what its body knows by number, speak of the same things.
-use Rattle.std.specs.Prelude.{ℕ, ◌≡◌, ◌≤◌, Bool, true, false, ◌&&◌, ◌||◌, not, List, length, map, Option, Some, None, slice_get}
+use Rattle.program_laws.specs.Common.{ℕ, ◌≡◌, Bool, true, false, ◌&&◌, not, List, Option, Some, None, Scope, Seen, SeenKind, Table, ActionHead, action_named, seen}
+use Rattle.std.specs.Prelude.{◌≤◌, ◌||◌, length, map, slice_get}
 use Rattle.std.specs.List.{AllByRecursion, list_all}
 use Rattle.epl_values.specs.declared.shape.Shape.{Shape}
 use Rattle.epl_values.specs.declared.shape.EventShape.{EventShape}
@@ -7,17 +8,11 @@ use Rattle.typed_program.specs.declared.expression.TypedExpr.{TypedExpr}
 use Rattle.typed_program.specs.declared.program.Action.{Action}
 use Rattle.typed_program.specs.Shapes.{stands, is_scalar}
 use Rattle.typed_program.specs.Expressions.{Names, holds, shape_of}
-use Rattle.type_table.specs.declared.scope.Scope.{Scope}
-use Rattle.type_table.specs.declared.scope.Seen.{Seen}
-use Rattle.type_table.specs.declared.scope.SeenKind.{SeenKind}
 use Rattle.type_table.specs.declared.scope.SeenKind.TheVariants as kind
-use Rattle.type_table.specs.declared.table.Table.{Table}
-use Rattle.type_table.specs.declared.table.ActionHead.{ActionHead}
 use Rattle.expr_rules.specs.declared.placed.Gives.{Gives}
 use Rattle.expr_rules.specs.declared.placed.Gives.TheVariants as gives
 use Rattle.expr_rules.specs.Asked.{Wish, Statement, Unknown, Exactly, Key}
-use Rattle.expr_rules.specs.Calls.{action_named, param_wants, result_given}
-use Rattle.expr_rules.specs.Names.{seen}
+use Rattle.expr_rules.specs.Calls.{param_wants, result_given}
 use Rattle.expr_rules.specs.Places.{fits, is_key}
 
 -- the shape that a body knows by the number of a name

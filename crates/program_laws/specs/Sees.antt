@@ -1,19 +1,14 @@
 -- What is visible in a text, and what its body sees by number: kinds, roots of paths, and the actions that aren't called.
-use Rattle.std.specs.Prelude.{ℕ, ◌≡◌, ◌-◌, Bool, true, false, ◌&&◌, not, ◌==◌, List, Option, Some, None}
+use Rattle.program_laws.specs.Common.{ℕ, ◌≡◌, Bool, true, false, ◌&&◌, not, List, Option, Some, None, Scope, Seen, SeenKind, Table, ActionHead, action_named, seen}
+use Rattle.std.specs.Prelude.{◌-◌, ◌==◌}
 use Rattle.std.specs.List.{list_any}
 use Rattle.typed_program.specs.Mentions.{Mention}
 use Rattle.typed_program.specs.Paths.{Kind, Free, Held, Bound, Visible, Root as Begins, Path, visible_at, plain, argument}
-use Rattle.type_table.specs.declared.scope.Scope.{Scope}
-use Rattle.type_table.specs.declared.scope.Seen.{Seen}
-use Rattle.type_table.specs.declared.scope.SeenKind.{SeenKind}
 use Rattle.type_table.specs.declared.scope.SeenKind.TheVariants as kind
-use Rattle.type_table.specs.declared.table.Table.{Table}
-use Rattle.type_table.specs.declared.table.ActionHead.{ActionHead}
 use Rattle.expr_rules.specs.declared.asked.Paths.{Paths}
 use Rattle.expr_rules.specs.declared.asked.Paths.TheVariants as paths
 use Rattle.expr_rules.specs.declared.placed.Root.{Root}
-use Rattle.expr_rules.specs.Calls.{action_named, is_callback}
-use Rattle.expr_rules.specs.Names.{seen}
+use Rattle.expr_rules.specs.Calls.{is_callback}
 use Rattle.expr_rules.specs.Places.{is_global, is_fixed}
 use Rattle.expr_rules.specs.Shapes.{is_known_reference}
 

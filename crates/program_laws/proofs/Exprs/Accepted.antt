@@ -1,28 +1,8 @@
 -- An expression in which no fault is found has its shape; so have places that are assigned, and arguments.
-use Rattle.std.proofs.Common.{◌≡◌, Bool, true, List, [], ◌∷◌, map, length, Some, refl, ◌∙◌}
-use Rattle.std.specs.List.{list_all, AllByRecursion}
-use Rattle.std.proofs.lemmas.Bool.{and_from, and_parts}
-use Rattle.std.proofs.lemmas.List.{length-map}
-use Rattle.std.proofs.lemmas.Slice.Eq.{bytes_eq-Decides}
-use Rattle.std.specs.Str.{bytes_eq}
-use Rattle.epl_values.specs.declared.shape.Shape.{Shape}
-use Rattle.epl_tree.specs.declared.expression.Expr.{Expr}
-use Rattle.epl_tree.specs.declared.expression.Suffix.{Suffix}
-use Rattle.epl_tree.specs.declared.statement.Place.{Place}
-use Rattle.typed_program.specs.declared.expression.TypedExpr.{TypedExpr}
-use Rattle.typed_program.specs.Shapes.{stands}
-use Rattle.typed_program.specs.Expressions.{Names, holds, shape_of, have, has}
-use Rattle.type_table.specs.declared.scope.Scope.{Scope}
-use Rattle.type_table.specs.declared.table.ParamHead.{ParamHead}
-use Rattle.type_table.specs.declared.table.Table.{Table}
-use Rattle.expr_rules.specs.Asked.{Demand, Wish, Exactly}
-use Rattle.expr_rules.specs.Calls.{param_wants, typed_arguments}
-use Rattle.expr_rules.specs.Names.{seen, name_found}
+use Rattle.program_laws.proofs.Common.{◌≡◌, Bool, true, List, [], ◌∷◌, map, length, Some, refl, ◌∙◌, list_all, AllByRecursion, and_from, and_parts, length-map, bytes_eq-Decides, bytes_eq, Shape, Expr, Suffix, Place, TypedExpr, stands, Names, holds, shape_of, have, Scope, ParamHead, Table, Demand, Wish, Exactly, param_wants, typed_arguments, seen, name_found, place_found, typed_of, expr_found, Knows, KnowsTable, KnowsNamed, wish_stands, wished, answers, any_of, expr_names, suffix_names, place_names}
+use Rattle.typed_program.specs.Expressions.{has}
 use Rattle.expr_rules.specs.Postfix.{leads}
-use Rattle.expr_check.specs.Checks.{place_found}
-use Rattle.expr_check.specs.Expressions.{typed_of, part_of, step_of, expr_found}
-use Rattle.program_laws.specs.Known.{Knows, KnowsTable, KnowsNamed, wish_stands, wished, answers}
-use Rattle.stmt_check.specs.Captures.{any_of, expr_names, suffix_names, place_names}
+use Rattle.expr_check.specs.Expressions.{part_of, step_of}
 use Rattle.program_laws.proofs.Exprs.Sure.{sure_then, sure_sound}
 use Rattle.program_laws.proofs.Exprs.Answering.{Answering, Answers, exact_known}
 use Rattle.program_laws.proofs.Exprs.Holding.{is_of_known}

@@ -1,9 +1,8 @@
 -- Two shapes that are told to be the same are one.
-use Rattle.std.proofs.Common.{◌≡◌, Bool, true, refl, sym, ap, ap₂, subst, ◌∙◌, true≢false}
-use Rattle.std.proofs.lemmas.Bool.{and_parts, and_from, eqb-true, eq-eqb}
-use Rattle.epl_values.specs.declared.shape.Shape.{Shape, Shape-F, map-Shape, out-Shape, roll-Shape, out-roll-Shape, roll-out-Shape, fold-roll-Shape, ind-Shape}
+use Rattle.program_laws.proofs.Common.{◌≡◌, Bool, true, refl, sym, ap, ap₂, subst, ◌∙◌, true≢false, and_parts, and_from, eqb-true, eq-eqb, Shape, Shape-F, map-Shape, out-Shape, roll-Shape, roll-out-Shape, same}
+use Rattle.epl_values.specs.declared.shape.Shape.{out-roll-Shape, fold-roll-Shape, ind-Shape}
 use Rattle.epl_values.specs.declared.shape.Shape.TheOpen as layer
-use Rattle.typed_program.specs.Shapes.{same, same_layer}
+use Rattle.typed_program.specs.Shapes.{same_layer}
 
 same_roll : (d : Shape-F Shape) (t : Shape) → same (roll-Shape d) t ≡ same_layer (map-Shape Shape (Shape → Bool) same d) (out-Shape t)
 same_roll d t = ap (λ (f : Shape → Bool). f t) (fold-roll-Shape (Shape → Bool) (λ s u. same_layer s (out-Shape u)) d)

@@ -1,22 +1,9 @@
 -- What an expression answers at its place, where no fault is found.
-use Rattle.std.proofs.Common.{◌≡◌, ℕ, Bool, true, false, ◌&&◌, ◌||◌, not, [], ◌∷◌, ◌++◌, Option, Some, None, refl, sym, ap, ◌∙◌, true≢false, if◌then◌else◌}
-use Rattle.std.proofs.lemmas.Bool.{and_parts, and_from}
-use Rattle.span_text.specs.declared.spot.Spot.{Spot}
-use Rattle.epl_values.specs.declared.shape.Shape.{Shape}
-use Rattle.typed_program.specs.declared.expression.TypedExpr.{roll-TypedExpr}
-use Rattle.typed_program.specs.declared.expression.TypedNode.{TypedNode}
-use Rattle.typed_program.specs.Shapes.{same, stands, is_scalar}
-use Rattle.typed_program.specs.Expressions.{Names, checked, holds, shape_of, may_stand, is_of}
-use Rattle.expr_rules.specs.declared.placed.Gives.{Gives}
+use Rattle.program_laws.proofs.Common.{◌≡◌, ℕ, Bool, true, false, ◌&&◌, ◌||◌, not, [], ◌∷◌, ◌++◌, Option, Some, None, refl, sym, ap, ◌∙◌, true≢false, if◌then◌else◌, and_parts, and_from, Spot, Shape, roll-TypedExpr, TypedNode, same, stands, Names, checked, holds, shape_of, may_stand, is_of, Gives, Root, Judged, Demand, Wish, Statement, Value, Exactly, key_codes, misfit_codes, path_codes, given_codes, place_codes, change_code, astray_code, shape_given, judged, Part, codes_of, wish_stands, wished}
+use Rattle.typed_program.specs.Shapes.{is_scalar}
 use Rattle.expr_rules.specs.declared.placed.Gives.TheVariants as gives
-use Rattle.expr_rules.specs.declared.placed.Root.{Root}
-use Rattle.expr_rules.specs.declared.placed.Judged.{Judged}
-use Rattle.expr_rules.specs.Asked.{Demand, Wish, Statement, Value, Exactly}
-use Rattle.expr_rules.specs.Places.{fits, is_key, key_codes, misfit_codes, path_codes, void_codes, given_codes, place_codes, change_code, astray_code, shape_given, placed, judged}
+use Rattle.expr_rules.specs.Places.{fits, is_key, void_codes, placed}
 use Rattle.expr_rules.specs.Places.{stands as placed_stands}
-use Rattle.expr_rules.specs.Operators.{Part}
-use Rattle.expr_rules.specs.Then.{codes_of}
-use Rattle.program_laws.specs.Known.{wish_stands, wished}
 use Rattle.program_laws.proofs.Exprs.Sure.{Sure, own_none, sure_sound, sure_node, sure_then}
 use Rattle.program_laws.proofs.Exprs.Alike.{same_is}
 use Rattle.program_laws.proofs.Exprs.Holding.{node_checked, holds_made, shape_made, holds_stands, is_of_known}

@@ -1,21 +1,7 @@
 -- Arguments have the shapes that are asked, where as many stand there.
-use Rattle.std.proofs.Common.{◌≡◌, ℕ, zero, suc, ◌+◌, ◌≤◌, ◌==◌, Bool, true, List, [], ◌∷◌, ◌++◌, map, length, take, Option, Some, None, slice_get, refl, sym, ap, subst, ◌∙◌, true≢false, arith}
-use Rattle.std.specs.List.{list_all, AllByRecursion}
-use Rattle.std.proofs.lemmas.Bool.{and_parts, and_from, eqb-true}
-use Rattle.std.proofs.lemmas.List.{length_push, length-map}
-use Rattle.epl_values.specs.declared.shape.Shape.{Shape}
-use Rattle.typed_program.specs.declared.expression.TypedExpr.{TypedExpr}
-use Rattle.typed_program.specs.Shapes.{stands}
-use Rattle.typed_program.specs.Expressions.{Names, checked, is_of, are_of, have}
-use Rattle.type_table.specs.declared.table.ParamHead.{ParamHead}
-use Rattle.expr_rules.specs.declared.asked.Paths.{Paths}
-use Rattle.expr_rules.specs.declared.calls.Arguments.{Arguments}
-use Rattle.expr_rules.specs.declared.placed.Judged.{Judged}
-use Rattle.expr_rules.specs.Asked.{Wish, Value, Exactly, asked_by, like}
-use Rattle.expr_rules.specs.Calls.{wish_at, next_wish, argument_of, argument_found, arguments_found, no_arguments, count_code, param_wants, call_paths, items_of, typed_arguments}
-use Rattle.expr_rules.specs.Operators.{Part}
+use Rattle.program_laws.proofs.Common.{◌≡◌, ℕ, zero, suc, ◌+◌, ◌≤◌, ◌==◌, Bool, true, List, [], ◌∷◌, ◌++◌, map, length, take, Option, Some, None, slice_get, refl, sym, ap, subst, ◌∙◌, true≢false, arith, list_all, AllByRecursion, and_parts, and_from, eqb-true, length_push, length-map, Shape, TypedExpr, stands, Names, checked, is_of, are_of, have, ParamHead, Paths, Arguments, Judged, Wish, Value, Exactly, asked_by, like, next_wish, argument_of, argument_found, arguments_found, no_arguments, count_code, param_wants, call_paths, items_of, typed_arguments, Part, wish_stands}
+use Rattle.expr_rules.specs.Calls.{wish_at}
 use Rattle.expr_rules.specs.Then.{and_then, through}
-use Rattle.program_laws.specs.Known.{wish_stands}
 use Rattle.program_laws.proofs.Exprs.Sure.{Sure, sure_then, sure_sound, sure_through}
 use Rattle.program_laws.proofs.Exprs.Answering.{Answering, Answers, exact_is_of}
 use Rattle.program_laws.proofs.Shapes.Lists.{none_unless}

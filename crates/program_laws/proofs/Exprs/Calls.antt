@@ -1,37 +1,13 @@
 -- Calls answer, where their arguments do and what they name is known.
-use Rattle.std.proofs.Common.{◌≡◌, ℕ, ◌<◌, ◌≤◌, ◌==◌, Bool, true, false, ◌&&◌, ◌||◌, List, [], ◌∷◌, map, length, take, min, Option, Some, None, slice_get, refl, sym, ap, subst, ◌∙◌, if◌then◌else◌, inl, inr, ◌⊎◌, arith}
-use Rattle.std.specs.List.{list_all, AllByRecursion}
-use Rattle.std.specs.Str.{bytes_eq}
-use Rattle.std.proofs.lemmas.Bool.{and_from, eqb-true, eq-eqb, lt-ltb, or_cases, or_left, or_right}
-use Rattle.std.proofs.lemmas.List.{length-map}
-use Rattle.std.proofs.lemmas.List.Folds.{list_all-map}
-use Rattle.std.proofs.lemmas.List.Quantifiers.{position-Some}
-use Rattle.span_text.specs.declared.spot.Spot.{Spot}
-use Rattle.epl_values.specs.declared.shape.Shape.{Shape}
+use Rattle.program_laws.proofs.Common.{◌≡◌, ℕ, ◌<◌, ◌≤◌, ◌==◌, Bool, true, false, ◌&&◌, ◌||◌, List, [], ◌∷◌, map, length, take, min, Option, Some, None, slice_get, refl, sym, ap, subst, ◌∙◌, if◌then◌else◌, inl, inr, ◌⊎◌, arith, list_all, AllByRecursion, bytes_eq, and_from, eqb-true, eq-eqb, lt-ltb, or_cases, or_left, or_right, length-map, list_all-map, position-Some, Spot, Shape, Field, EventShape, TypedExpr, TypedNode, Action, same, stands, Names, checked, are_of, if_known, agrees, Scope, Table, ActionHead, event_of, Gives, Arguments, Demand, fields_at, param_wants, count_code, action_named, event_plan, action_plan, missing_plan, plan_of, callee_node, callee_code, plan_found, call_found, context_code, context_start, context_found, arguments_found, Part, lower, KnowsTable, KnowsAction, KnowsType, gives_result, result_stands}
 use Rattle.epl_values.specs.declared.shape.Shape.TheVariants as shape
-use Rattle.epl_values.specs.declared.shape.Field.{Field}
-use Rattle.epl_values.specs.declared.shape.EventShape.{EventShape}
-use Rattle.typed_program.specs.declared.expression.TypedExpr.{TypedExpr}
-use Rattle.typed_program.specs.declared.expression.TypedNode.{TypedNode}
 use Rattle.typed_program.specs.declared.expression.TypedNode.TheVariants as made
 use Rattle.typed_program.specs.declared.expression.TypedNode.TheOpen as typed
-use Rattle.typed_program.specs.declared.program.Action.{Action}
-use Rattle.typed_program.specs.Shapes.{same, stands}
-use Rattle.typed_program.specs.Expressions.{Names, checked, are_of, if_known, makes, calls, agrees, names_context}
-use Rattle.type_table.specs.declared.scope.Scope.{Scope}
-use Rattle.type_table.specs.declared.table.Table.{Table}
-use Rattle.type_table.specs.declared.table.ActionHead.{ActionHead}
-use Rattle.type_table.specs.Table.{event_of}
+use Rattle.typed_program.specs.Expressions.{makes, calls, names_context}
 use Rattle.expr_rules.specs.declared.asked.Paths.TheVariants as paths
-use Rattle.expr_rules.specs.declared.placed.Gives.{Gives}
 use Rattle.expr_rules.specs.declared.placed.Gives.TheVariants as gives
-use Rattle.expr_rules.specs.declared.calls.Arguments.{Arguments}
 use Rattle.expr_rules.specs.declared.calls.Callee.{Callee}
-use Rattle.expr_rules.specs.Asked.{Demand}
-use Rattle.expr_rules.specs.Calls.{fields_at, field_wants, param_wants, count_code, action_named, event_plan, action_plan, missing_plan, plan_of, callee_node, callee_code, call_stands, plan_found, call_found, context_code, context_stands, context_start, context_found, arguments_found}
-use Rattle.expr_rules.specs.Operators.{Part}
-use Rattle.expr_rules.specs.Then.{lower}
-use Rattle.program_laws.specs.Known.{KnowsTable, KnowsAction, KnowsType, gives_result, result_stands}
+use Rattle.expr_rules.specs.Calls.{field_wants, call_stands, context_stands}
 use Rattle.program_laws.proofs.Exprs.Sure.{Sure, sure_then}
 use Rattle.program_laws.proofs.Exprs.Alike.{same_self}
 use Rattle.program_laws.proofs.Exprs.Standing.{event_stands, context_stands as context_there, text_stands as text_there, boolean_stands as boolean_there}

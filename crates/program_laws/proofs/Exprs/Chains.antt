@@ -1,29 +1,14 @@
 -- A chain of operands that answer answers.
-use Rattle.std.proofs.Common.{◌≡◌, Bool, true, List, [], ◌∷◌, ◌++◌, map, Some, refl, ap, ◌∙◌, inl, inr, ◌⊎◌}
-use Rattle.std.specs.List.{list_all, AllByRecursion}
-use Rattle.std.proofs.lemmas.Bool.{and_parts, and_from, or_left, or_right}
-use Rattle.span_text.specs.declared.spot.Spot.{Spot}
-use Rattle.epl_values.specs.declared.shape.Shape.{Shape}
+use Rattle.program_laws.proofs.Common.{◌≡◌, Bool, true, List, [], ◌∷◌, ◌++◌, map, Some, refl, ap, ◌∙◌, inl, inr, ◌⊎◌, list_all, AllByRecursion, and_parts, and_from, or_left, or_right, Spot, Shape, Operator, TypedExpr, TypedLink, roll-TypedLink, same, Names, Checked, checked, is_of, is_add, Sort, Logic, Level, Chain, LinkChain, Judged, Demand, Value, operand, Part, Linked, sort_of_expr, truth, truths, addable, linked, given_by, join_found, with_operand, logic_node, chain_start, logic_found, with_link, link_found, level_node, links_start, links_found}
 use Rattle.epl_values.specs.declared.shape.Shape.TheVariants as shape
-use Rattle.epl_tree.specs.declared.expression.Operator.{Operator}
-use Rattle.typed_program.specs.declared.expression.TypedExpr.{TypedExpr}
-use Rattle.typed_program.specs.declared.expression.TypedLink.{TypedLink, roll-TypedLink}
 use Rattle.typed_program.specs.declared.expression.TypedNode.TheVariants as made
 use Rattle.typed_program.specs.declared.expression.TypedNode.TheOpen as typed
-use Rattle.typed_program.specs.Shapes.{same}
-use Rattle.typed_program.specs.Expressions.{Names, Checked, checked, is_of, all_of, is_add}
+use Rattle.typed_program.specs.Expressions.{all_of}
 use Rattle.typed_program.specs.Expressions.{Linked as TypedLinked, links as links_so}
-use Rattle.expr_rules.specs.declared.operators.Sort.{Sort}
 use Rattle.expr_rules.specs.declared.operators.Sort.TheVariants as sort
-use Rattle.expr_rules.specs.declared.operators.Logic.{Logic}
 use Rattle.expr_rules.specs.declared.operators.Logic.TheVariants as logic
-use Rattle.expr_rules.specs.declared.operators.Level.{Level}
 use Rattle.expr_rules.specs.declared.operators.Level.TheVariants as level
-use Rattle.expr_rules.specs.declared.operators.Chain.{Chain}
-use Rattle.expr_rules.specs.declared.operators.LinkChain.{LinkChain}
-use Rattle.expr_rules.specs.declared.placed.Judged.{Judged}
-use Rattle.expr_rules.specs.Asked.{Demand, Value, operand}
-use Rattle.expr_rules.specs.Operators.{Part, Linked, sort_of_expr, truth, truths, addable, linked, given_by, paired, joined, join_found, with_operand, logic_node, chain_of, chain_start, logic_rest, logic_found, with_link, link_of, link_found, level_node, links_of, links_start, links_rest, links_found}
+use Rattle.expr_rules.specs.Operators.{paired, joined, chain_of, logic_rest, link_of, links_of, links_rest}
 use Rattle.expr_rules.specs.Then.{through}
 use Rattle.program_laws.proofs.Exprs.Sure.{Sure, sure_then, sure_sound, sure_through}
 use Rattle.program_laws.proofs.Exprs.Alike.{same_self}

@@ -1,24 +1,15 @@
 -- Literals of dictionaries answer, where their entries do.
-use Rattle.std.proofs.Common.{◌≡◌, true, ◌&&◌, List, [], ◌∷◌, ◌++◌, map, Option, Some, None, refl, sym, ap, subst, ◌∙◌, true≢false}
-use Rattle.std.specs.List.{list_all, AllByRecursion}
-use Rattle.std.proofs.lemmas.Bool.{and_parts, and_from}
-use Rattle.span_text.specs.declared.spot.Spot.{Spot}
-use Rattle.epl_values.specs.declared.shape.Shape.{Shape, Shape-F, out-Shape}
+use Rattle.program_laws.proofs.Common.{◌≡◌, true, ◌&&◌, List, [], ◌∷◌, ◌++◌, map, Option, Some, None, refl, sym, ap, subst, ◌∙◌, true≢false, list_all, AllByRecursion, and_parts, and_from, Spot, Shape, Shape-F, out-Shape, TypedEntry, roll-TypedEntry, same, Names, Paired, checked, shape_of, is_of, Judged, EntryList, Demand, Value, Exactly, Key, Pair, entry_found, no_entries, dictionary_given, dictionary_items, dictionary_found, Part, wish_stands, wished}
 use Rattle.epl_values.specs.declared.shape.Shape.TheVariants as shape
 use Rattle.epl_values.specs.declared.shape.Shape.TheOpen as layer
-use Rattle.typed_program.specs.declared.expression.TypedEntry.{TypedEntry, roll-TypedEntry}
 use Rattle.typed_program.specs.declared.expression.TypedNode.TheVariants as made
 use Rattle.typed_program.specs.declared.expression.TypedNode.TheOpen as typed
-use Rattle.typed_program.specs.Shapes.{same, is_scalar, is_dictionary, is_dictionary_layer}
-use Rattle.typed_program.specs.Expressions.{Names, Paired, checked, shape_of, is_of, dictionary_so}
+use Rattle.typed_program.specs.Shapes.{is_scalar, is_dictionary, is_dictionary_layer}
+use Rattle.typed_program.specs.Expressions.{dictionary_so}
 use Rattle.expr_rules.specs.declared.placed.Gives.TheVariants as gives
-use Rattle.expr_rules.specs.declared.placed.Judged.{Judged}
-use Rattle.expr_rules.specs.declared.literals.EntryList.{EntryList}
-use Rattle.expr_rules.specs.Asked.{Demand, Value, Exactly, Key, plain}
-use Rattle.expr_rules.specs.Literals.{Pair, entry_of, value_found, entry_found, no_entries, dictionary_given, dictionary_items, dictionary_of, dictionary_found}
-use Rattle.expr_rules.specs.Operators.{Part}
+use Rattle.expr_rules.specs.Asked.{plain}
+use Rattle.expr_rules.specs.Literals.{entry_of, value_found, dictionary_of}
 use Rattle.expr_rules.specs.Then.{and_then, through}
-use Rattle.program_laws.specs.Known.{wish_stands, wished}
 use Rattle.program_laws.proofs.Exprs.Sure.{Sure, sure_then, sure_sound, sure_through}
 use Rattle.program_laws.proofs.Exprs.Alike.{same_is}
 use Rattle.program_laws.proofs.Exprs.Standing.{KeyStands, dictionary_stands}

@@ -1,16 +1,6 @@
 -- What holds of a typed expression, by its node.
-use Rattle.std.proofs.Common.{◌≡◌, Bool, true, ◌&&◌, Option, Some, sym, ap, ◌∙◌}
-use Rattle.std.proofs.lemmas.Bool.{and_parts, and_from}
-use Rattle.epl_values.specs.declared.shape.Shape.{Shape}
-use Rattle.typed_program.specs.declared.expression.TypedExpr.{TypedExpr, out-TypedExpr, roll-TypedExpr, out-roll-TypedExpr, fold-roll-TypedExpr, fold_out-TypedExpr}
-use Rattle.typed_program.specs.declared.expression.TypedNode.{TypedNode, TypedNode-F, map-TypedNode, roll-TypedNode, fold-TypedNode, fold-roll-TypedNode}
-use Rattle.typed_program.specs.declared.expression.TypedEntry.{TypedEntry, roll-TypedEntry, fold-TypedEntry, fold-roll-TypedEntry}
-use Rattle.typed_program.specs.declared.expression.TypedLink.{TypedLink, roll-TypedLink, fold-TypedLink, fold-roll-TypedLink}
-use Rattle.typed_program.specs.declared.expression.TypedSuffix.{TypedSuffix, roll-TypedSuffix, fold-roll-TypedSuffix}
-use Rattle.typed_program.specs.declared.expression.TypedSuffixNode.{TypedSuffixNode, TypedSuffixNode-F, map-TypedSuffixNode, roll-TypedSuffixNode, fold-TypedSuffixNode, fold-roll-TypedSuffixNode}
-use Rattle.epl_tree.specs.declared.expression.Operator.{Operator}
-use Rattle.typed_program.specs.Shapes.{same}
-use Rattle.typed_program.specs.Expressions.{Names, Checked, Node, Step, Paired, Linked, Stepping, node_so, step_so, entry_so, expr_so, link_so, suffix_so, checked, stepping, holds, shape_of, may_stand, if_known, is_of}
+use Rattle.program_laws.proofs.Common.{◌≡◌, Bool, true, ◌&&◌, Option, Some, sym, ap, ◌∙◌, and_parts, and_from, Shape, TypedExpr, out-TypedExpr, roll-TypedExpr, out-roll-TypedExpr, fold-roll-TypedExpr, fold_out-TypedExpr, TypedNode, TypedNode-F, map-TypedNode, roll-TypedNode, fold-TypedNode, fold-roll-TypedNode, TypedEntry, roll-TypedEntry, fold-TypedEntry, fold-roll-TypedEntry, TypedLink, roll-TypedLink, fold-TypedLink, fold-roll-TypedLink, TypedSuffix, roll-TypedSuffix, fold-roll-TypedSuffix, TypedSuffixNode, TypedSuffixNode-F, map-TypedSuffixNode, roll-TypedSuffixNode, fold-TypedSuffixNode, fold-roll-TypedSuffixNode, Operator, same, Names, Checked, Paired, Stepping, node_so, step_so, entry_so, expr_so, link_so, suffix_so, checked, stepping, holds, shape_of, may_stand, if_known, is_of}
+use Rattle.typed_program.specs.Expressions.{Node, Step, Linked}
 use Rattle.program_laws.proofs.Exprs.Alike.{same_self}
 
 module _ (names : Names) where

@@ -1,38 +1,18 @@
 -- One induction over expressions: what holds of each form, where it holds of the parts, holds of every expression, together with
 -- the names that it names.
-use Rattle.std.proofs.Common.{◌≡◌, ℕ, Bool, List, [], ◌∷◌, map, sym, subst}
-use Rattle.std.specs.Str.{bytes_eq}
-use Rattle.span_text.specs.declared.spot.Spot.{Spot}
-use Rattle.epl_tree.specs.declared.expression.Comparison.{Comparison}
-use Rattle.epl_tree.specs.declared.expression.Operator.{Operator}
-use Rattle.epl_tree.specs.declared.expression.Expr.{Expr, Expr-F, map-Expr, roll-Expr, fold-roll-Expr}
-use Rattle.epl_tree.specs.declared.expression.ExprNode.{ExprNode, ExprNode-F, map-ExprNode, roll-ExprNode, fold-ExprNode, fold-roll-ExprNode}
+use Rattle.program_laws.proofs.Common.{◌≡◌, ℕ, Bool, List, [], ◌∷◌, map, sym, subst, bytes_eq, Spot, Comparison, Operator, Expr, Expr-F, map-Expr, roll-Expr, fold-roll-Expr, ExprNode, ExprNode-F, map-ExprNode, roll-ExprNode, fold-ExprNode, fold-roll-ExprNode, Link, Link-F, map-Link, roll-Link, fold-roll-Link, Entry, Entry-F, map-Entry, roll-Entry, fold-roll-Entry, Suffix, Suffix-F, map-Suffix, roll-Suffix, fold-roll-Suffix, SuffixNode, SuffixNode-F, map-SuffixNode, roll-SuffixNode, fold-SuffixNode, fold-roll-SuffixNode, ind-Expr, TypeExpr, Scope, Table, type_found, Logic, Level, inside, call_found, context_found, Pair, text_stands, boolean_stands, current_stands, integer_found, sequence_found, dictionary_found, is_change, seen, name_found, Part, Linked, not_found, minus_found, comparison_found, logic_found, links_found, Step, method_kind, field_found, index_found, method_found, postfix_found, Node, StepNode, node_step, suffix_node_step, entry_step, expr_step, link_step, suffix_step, link_part, entry_part, none, either, any_of, expr_node, expr_names, suffix_names, link_names, entry_names}
 use Rattle.epl_tree.specs.declared.expression.ExprNode.TheOpen as node
-use Rattle.epl_tree.specs.declared.expression.Link.{Link, Link-F, map-Link, roll-Link, fold-roll-Link}
-use Rattle.epl_tree.specs.declared.expression.Entry.{Entry, Entry-F, map-Entry, roll-Entry, fold-roll-Entry}
-use Rattle.epl_tree.specs.declared.expression.Suffix.{Suffix, Suffix-F, map-Suffix, roll-Suffix, fold-roll-Suffix}
-use Rattle.epl_tree.specs.declared.expression.SuffixNode.{SuffixNode, SuffixNode-F, map-SuffixNode, roll-SuffixNode, fold-SuffixNode, fold-roll-SuffixNode}
-use Rattle.epl_tree.specs.declared.expression.ExprNode.TheFolds.{ind-Expr, ind-Suffix}
-use Rattle.epl_tree.specs.declared.types.TypeExpr.{TypeExpr}
-use Rattle.type_table.specs.declared.scope.Scope.{Scope}
-use Rattle.type_table.specs.declared.table.Table.{Table}
-use Rattle.type_table.specs.Types.{type_found}
-use Rattle.expr_rules.specs.declared.operators.Logic.{Logic}
+use Rattle.epl_tree.specs.declared.expression.ExprNode.TheFolds.{ind-Suffix}
 use Rattle.expr_rules.specs.declared.operators.Logic.TheVariants as logic
-use Rattle.expr_rules.specs.declared.operators.Level.{Level}
 use Rattle.expr_rules.specs.declared.operators.Level.TheVariants as level
 use Rattle.expr_rules.specs.declared.steps.StepKind.TheVariants as step
-use Rattle.expr_rules.specs.Asked.{inside}
-use Rattle.expr_rules.specs.Calls.{call_found, context_found}
-use Rattle.expr_rules.specs.Literals.{Pair, new_stands, text_stands, boolean_stands, current_stands, integer_found, sequence_found, dictionary_found}
-use Rattle.expr_rules.specs.Methods.{is_change, method_named}
-use Rattle.expr_rules.specs.Names.{seen, name_found}
-use Rattle.expr_rules.specs.Operators.{Part, Linked, not_found, minus_found, comparison_found, logic_found, links_found}
+use Rattle.expr_rules.specs.Literals.{new_stands}
+use Rattle.expr_rules.specs.Methods.{method_named}
 use Rattle.expr_rules.specs.Places.{group_of}
-use Rattle.expr_rules.specs.Postfix.{Step, leads, method_kind, field_found, index_found, method_found, postfix_found}
+use Rattle.expr_rules.specs.Postfix.{leads}
 use Rattle.expr_rules.specs.Then.{and_then}
-use Rattle.expr_check.specs.Expressions.{Node, StepNode, node_step, suffix_node_step, entry_step, expr_step, link_step, suffix_step, part_of, link_part, entry_part, step_of}
-use Rattle.stmt_check.specs.Captures.{none, either, any_of, expr_node, suffix_node, expr_names, suffix_names, link_names, entry_names}
+use Rattle.expr_check.specs.Expressions.{part_of, step_of}
+use Rattle.stmt_check.specs.Captures.{suffix_node}
 use Rattle.stmt_check.specs.Captures.{Names as Naming, entry_step as entry_naming, expr_step as expr_naming, link_step as link_naming, suffix_step as suffix_naming}
 
 -- each of these names what it names

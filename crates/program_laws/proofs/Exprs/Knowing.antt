@@ -1,15 +1,5 @@
 -- Where all visible names are known, those that pass a test are; where those of a whole are known, those of its parts are.
-use Rattle.std.proofs.Common.{◌≡◌, ℕ, true, List, ◌∷◌, Option, Some, None}
-use Rattle.std.specs.List.{AllByRecursion}
-use Rattle.std.proofs.lemmas.Bool.{or_left, or_right}
-use Rattle.type_table.specs.declared.scope.Scope.{Scope}
-use Rattle.type_table.specs.declared.scope.Seen.{Seen}
-use Rattle.type_table.specs.declared.table.Table.{Table}
-use Rattle.type_table.specs.Table.{seen_of}
-use Rattle.typed_program.specs.Expressions.{Names}
-use Rattle.expr_rules.specs.Names.{item_at}
-use Rattle.program_laws.specs.Known.{Knows, KnowsName, KnowsNamed, KnowsTable}
-use Rattle.stmt_check.specs.Captures.{either, any_of}
+use Rattle.program_laws.proofs.Common.{◌≡◌, ℕ, true, List, ◌∷◌, Option, Some, None, AllByRecursion, or_left, or_right, Scope, Seen, Table, seen_of, Names, item_at, Knows, KnowsName, KnowsNamed, KnowsTable, either, any_of}
 use Rattle.stmt_check.specs.Captures.{Names as Naming}
 use Rattle.program_laws.proofs.Shapes.Lists.{all_at}
 

@@ -1,26 +1,16 @@
 -- Literals answer, where their elements do.
-use Rattle.std.proofs.Common.{◌≡◌, ℕ, ℤ, Bool, true, false, List, [], ◌∷◌, ◌++◌, map, Option, Some, None, refl, sym, ap, subst, ◌∙◌, true≢false, if◌then◌else◌, pos}
-use Rattle.std.specs.List.{list_all, AllByRecursion}
-use Rattle.span_text.specs.declared.spot.Spot.{Spot}
-use Rattle.epl_values.specs.declared.shape.EventShape.{EventShape}
-use Rattle.epl_values.specs.declared.shape.Shape.{Shape, Shape-F, out-Shape}
+use Rattle.program_laws.proofs.Common.{◌≡◌, ℕ, ℤ, Bool, true, false, List, [], ◌∷◌, ◌++◌, map, Option, Some, None, refl, sym, ap, subst, ◌∙◌, true≢false, if◌then◌else◌, pos, list_all, AllByRecursion, Spot, EventShape, Shape, Shape-F, out-Shape, TypedExpr, roll-TypedExpr, TypedNode, stands, is_sequence_layer, Names, checked, shape_of, is_of, Judged, Elements, Demand, Wish, Statement, Value, Exactly, Key, Event, Sequence, Channel, literal_stands, integer_stands, integer_found, integer_value, greatest, fixed, empty_code, empty_stands, text_stands, boolean_stands, current_stands, element_found, no_elements, sequence_items, sequence_found, Part, wish_stands}
 use Rattle.epl_values.specs.declared.shape.Shape.TheVariants as shape
 use Rattle.epl_values.specs.declared.shape.Shape.TheOpen as layer
-use Rattle.typed_program.specs.declared.expression.TypedExpr.{TypedExpr, roll-TypedExpr}
-use Rattle.typed_program.specs.declared.expression.TypedNode.{TypedNode}
 use Rattle.typed_program.specs.declared.expression.TypedNode.TheVariants as made
 use Rattle.typed_program.specs.declared.expression.TypedNode.TheOpen as typed
-use Rattle.typed_program.specs.Shapes.{stands, is_sequence, is_sequence_layer}
-use Rattle.typed_program.specs.Expressions.{Names, checked, shape_of, is_of, sequence_so}
+use Rattle.typed_program.specs.Shapes.{is_sequence}
+use Rattle.typed_program.specs.Expressions.{sequence_so}
 use Rattle.expr_rules.specs.declared.placed.Gives.TheVariants as gives
-use Rattle.expr_rules.specs.declared.placed.Judged.{Judged}
-use Rattle.expr_rules.specs.declared.literals.Elements.{Elements}
-use Rattle.expr_rules.specs.Asked.{Demand, Wish, Statement, Value, Unknown, Exactly, Key, Event, Sequence, Channel, plain}
-use Rattle.expr_rules.specs.Literals.{literal, literal_stands, integer_stands, integer_found, integer_value, greatest, number_of, within, fixed, empty_code, empty_stands, text_stands, boolean_stands, current_stands, new_stands, like_those, element_of, element_found, no_elements, sequence_items, sequence_of, sequence_found}
-use Rattle.expr_rules.specs.Operators.{Part}
+use Rattle.expr_rules.specs.Asked.{Unknown, plain}
+use Rattle.expr_rules.specs.Literals.{literal, number_of, within, new_stands, like_those, element_of, sequence_of}
 use Rattle.expr_rules.specs.Places.{placed}
 use Rattle.expr_rules.specs.Then.{and_then, through}
-use Rattle.program_laws.specs.Known.{wish_stands}
 use Rattle.program_laws.proofs.Exprs.Sure.{Sure, sure_then, sure_sound, sure_through}
 use Rattle.program_laws.proofs.Exprs.Alike.{same_self}
 use Rattle.program_laws.proofs.Exprs.Standing.{sequence_stands}

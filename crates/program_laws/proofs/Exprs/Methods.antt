@@ -1,19 +1,11 @@
 -- The methods of a type, as they are asked, are those that the type has, and their shapes stand.
-use Rattle.std.proofs.Common.{◌≡◌, ℕ, Bool, true, false, ◌&&◌, not, List, [], ◌∷◌, Option, Some, None, refl, subst, ◌∙◌}
-use Rattle.std.specs.List.{list_all}
-use Rattle.std.proofs.lemmas.Bool.{and_from}
-use Rattle.epl_values.specs.declared.shape.EventShape.{EventShape}
-use Rattle.epl_values.specs.declared.shape.Shape.{Shape, Shape-F, out-Shape}
+use Rattle.program_laws.proofs.Common.{◌≡◌, ℕ, Bool, true, false, ◌&&◌, not, List, [], ◌∷◌, Option, Some, None, refl, subst, ◌∙◌, list_all, and_from, EventShape, Shape, Shape-F, out-Shape, Method, stands, holds_link, may_stand, Signature, MethodCall, wants_of_shapes, row_of, gives_result}
 use Rattle.epl_values.specs.declared.shape.Shape.TheVariants as shape
 use Rattle.epl_values.specs.declared.shape.Shape.TheOpen as layer
-use Rattle.typed_program.specs.declared.expression.Method.{Method}
 use Rattle.typed_program.specs.declared.expression.Method.TheVariants as method
-use Rattle.typed_program.specs.Shapes.{stands, is_scalar, holds_link}
-use Rattle.typed_program.specs.Expressions.{may_stand}
-use Rattle.typed_program.specs.Methods.{Signature, gives, where_it, of_number, of_text, of_sequence, of_dictionary, of_event, of_listener, of_layer, signature}
-use Rattle.expr_rules.specs.declared.methods.MethodCall.{MethodCall}
-use Rattle.expr_rules.specs.Methods.{wants_of_shapes, row_of, text_row, place_row, plain_methods, text_methods, sequence_methods, dictionary_methods, event_methods, listener_methods, methods_of, signature_of}
-use Rattle.program_laws.specs.Known.{gives_result}
+use Rattle.typed_program.specs.Shapes.{is_scalar}
+use Rattle.typed_program.specs.Methods.{gives, where_it, of_number, of_text, of_sequence, of_dictionary, of_event, of_listener, of_layer, signature}
+use Rattle.expr_rules.specs.Methods.{text_row, place_row, plain_methods, text_methods, sequence_methods, dictionary_methods, event_methods, listener_methods, methods_of, signature_of}
 use Rattle.program_laws.proofs.Exprs.Standing.{integer_stands, boolean_stands, text_stands, sequence_stands, dictionary_stands, item_stands, entry_stands, KeyStands, layer_shape}
 
 -- how a method that the type has is asked

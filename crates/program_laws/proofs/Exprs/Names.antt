@@ -1,25 +1,12 @@
 -- A visible name answers, and so does what a place begins with.
-use Rattle.std.proofs.Common.{◌≡◌, ℕ, true, false, List, Option, Some, None, refl, sym, ap, subst, ◌∙◌}
-use Rattle.span_text.specs.declared.spot.Spot.{Spot}
-use Rattle.epl_values.specs.declared.shape.Shape.{Shape}
-use Rattle.typed_program.specs.declared.expression.TypedExpr.{TypedExpr, out-TypedExpr, roll-TypedExpr, out-roll-TypedExpr}
-use Rattle.typed_program.specs.declared.expression.TypedNode.{TypedNode}
+use Rattle.program_laws.proofs.Common.{◌≡◌, ℕ, true, false, List, Option, Some, None, refl, sym, ap, subst, ◌∙◌, Spot, Shape, TypedExpr, out-TypedExpr, roll-TypedExpr, out-roll-TypedExpr, TypedNode, Names, shape_of, if_known, variable_shape, Scope, Seen, SeenKind, Judged, Demand, seen, outer_code, variable, root_of, name_found, known, judged, shape_given, variable_layer, variable_of, KnowsName, by_number}
 use Rattle.typed_program.specs.declared.expression.TypedNode.TheVariants as made
 use Rattle.typed_program.specs.declared.expression.TypedNode.TheOpen as typed
-use Rattle.typed_program.specs.Expressions.{Names, shape_of, if_known, gives}
-use Rattle.typed_program.specs.Statements.{variable_shape}
-use Rattle.type_table.specs.declared.scope.Scope.{Scope}
-use Rattle.type_table.specs.declared.scope.Seen.{Seen}
-use Rattle.type_table.specs.declared.scope.SeenKind.{SeenKind}
+use Rattle.typed_program.specs.Expressions.{gives}
 use Rattle.type_table.specs.declared.scope.SeenKind.TheVariants as kind
 use Rattle.expr_rules.specs.declared.placed.Gives.TheVariants as gives_
-use Rattle.expr_rules.specs.declared.placed.Judged.{Judged}
-use Rattle.expr_rules.specs.Asked.{Demand}
-use Rattle.expr_rules.specs.Names.{seen, outer_code, variable, root_of, name_found}
-use Rattle.expr_rules.specs.Places.{known, placed, judged, shape_given}
+use Rattle.expr_rules.specs.Places.{placed}
 use Rattle.expr_rules.specs.Then.{and_then}
-use Rattle.expr_check.specs.Checks.{variable_layer, variable_of}
-use Rattle.program_laws.specs.Known.{KnowsName, by_number}
 use Rattle.program_laws.proofs.Exprs.Sure.{Sure, sure_then}
 use Rattle.program_laws.proofs.Exprs.Alike.{same_self}
 use Rattle.program_laws.proofs.Exprs.Holding.{node_checked, rolled}

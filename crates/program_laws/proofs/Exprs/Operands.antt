@@ -1,22 +1,12 @@
 -- An operator on operands that answer answers.
-use Rattle.std.proofs.Common.{◌≡◌, Bool, true, false, ◌&&◌, [], ◌∷◌, Option, Some, None, refl, sym, ap, subst, ◌∙◌, if◌then◌else◌}
-use Rattle.std.proofs.lemmas.Bool.{and_from}
-use Rattle.span_text.specs.declared.spot.Spot.{Spot}
-use Rattle.epl_values.specs.declared.shape.Shape.{Shape}
+use Rattle.program_laws.proofs.Common.{◌≡◌, Bool, true, false, ◌&&◌, [], ◌∷◌, Option, Some, None, refl, sym, ap, subst, ◌∙◌, if◌then◌else◌, and_from, Spot, Shape, Comparison, TypedExpr, out-TypedExpr, TypedNode, same, Names, checked, holds, shape_of, may_compare, if_known, is_of, Sort, Judged, Demand, Value, operand, Part, sort_of_expr, truth, given_by, operated, not_found, minus_node, minus_found, comparison_found}
 use Rattle.epl_values.specs.declared.shape.Shape.TheVariants as shape
-use Rattle.epl_tree.specs.declared.expression.Comparison.{Comparison}
-use Rattle.typed_program.specs.declared.expression.TypedExpr.{TypedExpr, out-TypedExpr}
-use Rattle.typed_program.specs.declared.expression.TypedNode.{TypedNode}
 use Rattle.typed_program.specs.declared.expression.TypedNode.TheVariants as made
 use Rattle.typed_program.specs.declared.expression.TypedNode.TheOpen as typed
-use Rattle.typed_program.specs.Shapes.{same}
-use Rattle.typed_program.specs.Expressions.{Names, checked, holds, shape_of, may_compare, if_known, is_of}
-use Rattle.expr_rules.specs.declared.operators.Sort.{Sort}
 use Rattle.expr_rules.specs.declared.operators.Sort.TheVariants as sort
 use Rattle.expr_rules.specs.declared.placed.Gives.TheVariants as gives
-use Rattle.expr_rules.specs.declared.placed.Judged.{Judged}
-use Rattle.expr_rules.specs.Asked.{Demand, Value, operand, negated}
-use Rattle.expr_rules.specs.Operators.{Part, sort_of_expr, truth, number, compared, given_by, operated, paired, not_of, not_found, minus_node, minus_of, minus_found, comparison_of, comparison_right, comparison_found}
+use Rattle.expr_rules.specs.Asked.{negated}
+use Rattle.expr_rules.specs.Operators.{number, compared, paired, not_of, minus_of, comparison_of, comparison_right}
 use Rattle.program_laws.proofs.Exprs.Sure.{Sure, sure_then, sure_node}
 use Rattle.program_laws.proofs.Exprs.Alike.{same_self}
 use Rattle.program_laws.proofs.Exprs.Standing.{integer_stands, boolean_stands, text_stands}

@@ -1,20 +1,12 @@
 -- What sorts of operands operators take and give, where all of them are known.
-use Rattle.std.proofs.Common.{◌≡◌, true, Option, Some, None, refl, sym, ap, ◌∙◌, true≢false, ◌⊎◌, inl, inr}
-use Rattle.epl_values.specs.declared.shape.Shape.{Shape, Shape-F, out-Shape}
+use Rattle.program_laws.proofs.Common.{◌≡◌, true, Option, Some, None, refl, sym, ap, ◌∙◌, true≢false, ◌⊎◌, inl, inr, Shape, Shape-F, out-Shape, Comparison, Operator, is_scalar_layer, is_ordered_layer, may_compare, is_add, Sort, Value, shape_given, truth, addable, linked, truths, given_by, wished}
 use Rattle.epl_values.specs.declared.shape.Shape.TheVariants as shape
 use Rattle.epl_values.specs.declared.shape.Shape.TheOpen as layer
-use Rattle.epl_tree.specs.declared.expression.Comparison.{Comparison}
 use Rattle.epl_tree.specs.declared.expression.Comparison.TheVariants as comparison
-use Rattle.epl_tree.specs.declared.expression.Operator.{Operator}
 use Rattle.epl_tree.specs.declared.expression.Operator.TheVariants as operator
-use Rattle.typed_program.specs.Shapes.{is_scalar, is_scalar_layer, is_ordered, is_ordered_layer}
-use Rattle.typed_program.specs.Expressions.{may_compare, is_add}
-use Rattle.expr_rules.specs.declared.operators.Sort.{Sort}
+use Rattle.typed_program.specs.Shapes.{is_scalar, is_ordered}
 use Rattle.expr_rules.specs.declared.operators.Sort.TheVariants as sort
-use Rattle.expr_rules.specs.Asked.{Value}
-use Rattle.expr_rules.specs.Places.{shape_given}
-use Rattle.expr_rules.specs.Operators.{sort_of, sort_of_layer, truth, number, both, alike, scalar_truth, order_truth, addable, compared, linked, truths, given_by}
-use Rattle.program_laws.specs.Known.{wished}
+use Rattle.expr_rules.specs.Operators.{sort_of, sort_of_layer, number, both, alike, scalar_truth, order_truth, compared}
 use Rattle.program_laws.proofs.Exprs.Standing.{layer_shape}
 
 -- the shape of a sort

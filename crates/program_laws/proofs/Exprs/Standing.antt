@@ -1,11 +1,9 @@
 -- Where a shape stands, its parts stand.
-use Rattle.std.proofs.Common.{◌≡◌, ℕ, true, ◌&&◌, List, length, refl, sym, ap, ◌∙◌, nat_lt}
-use Rattle.std.proofs.lemmas.Bool.{and_parts, and_from}
-use Rattle.epl_values.specs.declared.shape.EventShape.{EventShape}
-use Rattle.epl_values.specs.declared.shape.Shape.{Shape, Shape-F, map-Shape, out-Shape, roll-Shape, roll-out-Shape, fold-Shape, fold_out-Shape}
+use Rattle.program_laws.proofs.Common.{◌≡◌, ℕ, true, ◌&&◌, List, length, refl, sym, ap, ◌∙◌, nat_lt, and_parts, and_from, EventShape, Shape, Shape-F, map-Shape, out-Shape, roll-Shape, roll-out-Shape, Standing, standing_step, stands, is_scalar_layer}
+use Rattle.epl_values.specs.declared.shape.Shape.{fold-Shape, fold_out-Shape}
 use Rattle.epl_values.specs.declared.shape.Shape.TheVariants as shape
 use Rattle.epl_values.specs.declared.shape.Shape.TheOpen as layer
-use Rattle.typed_program.specs.Shapes.{Standing, standing_step, stands, is_scalar, is_scalar_layer}
+use Rattle.typed_program.specs.Shapes.{is_scalar}
 
 -- a shape by its layer
 pub layer_shape : (s : Shape) (d : Shape-F Shape) → out-Shape s ≡ d → s ≡ roll-Shape d

@@ -1,24 +1,7 @@
 -- Where a walk comes to: each step leads on from the shape before it.
-use Rattle.std.proofs.Common.{◌≡◌, ◌+◌, true, List, [], ◌∷◌, ◌++◌, map, length, Option, Some, None, refl, sym, ap, subst, ◌∙◌, true≢false}
-use Rattle.std.proofs.lemmas.Bool.{and_parts, and_from}
-use Rattle.std.proofs.lemmas.List.{length_push}
-use Rattle.span_text.specs.declared.spot.Spot.{Spot}
-use Rattle.epl_values.specs.declared.shape.Shape.{Shape}
-use Rattle.typed_program.specs.declared.expression.TypedExpr.{TypedExpr}
-use Rattle.typed_program.specs.declared.expression.TypedSuffix.{TypedSuffix, roll-TypedSuffix}
-use Rattle.typed_program.specs.declared.expression.TypedSuffixNode.{TypedSuffixNode}
-use Rattle.typed_program.specs.Shapes.{stands}
-use Rattle.typed_program.specs.Expressions.{Names, Stepping, stepping, shape_of, may_stand, walks, agrees}
-use Rattle.expr_rules.specs.declared.placed.Gives.{Gives}
+use Rattle.program_laws.proofs.Common.{◌≡◌, ◌+◌, true, List, [], ◌∷◌, ◌++◌, map, length, Option, Some, None, refl, sym, ap, subst, ◌∙◌, true≢false, and_parts, and_from, length_push, Spot, Shape, TypedExpr, TypedSuffix, roll-TypedSuffix, TypedSuffixNode, stands, Names, Stepping, stepping, shape_of, may_stand, walks, agrees, Gives, Root, Judged, Reach, Walk, Demand, Wish, Value, given_codes, key_codes, misfit_codes, path_codes, shape_given, Step, walk_start, walked, reached, wish_stands, wished, gives_result}
 use Rattle.expr_rules.specs.declared.placed.Gives.TheVariants as gives
-use Rattle.expr_rules.specs.declared.placed.Root.{Root}
-use Rattle.expr_rules.specs.declared.placed.Judged.{Judged}
-use Rattle.expr_rules.specs.declared.methods.Reach.{Reach}
-use Rattle.expr_rules.specs.declared.steps.Walk.{Walk}
-use Rattle.expr_rules.specs.Asked.{Demand, Wish, Value}
-use Rattle.expr_rules.specs.Places.{given_codes, key_codes, misfit_codes, path_codes, shape_given, placed}
-use Rattle.expr_rules.specs.Postfix.{Step, walk_start, walked, reached}
-use Rattle.program_laws.specs.Known.{wish_stands, wished, gives_result}
+use Rattle.expr_rules.specs.Places.{placed}
 use Rattle.program_laws.proofs.Exprs.Sure.{Sure, sure_then, sure_sound}
 use Rattle.program_laws.proofs.Exprs.Alike.{same_is}
 use Rattle.program_laws.proofs.Exprs.Holding.{step_checked, step_made, holds_stands}

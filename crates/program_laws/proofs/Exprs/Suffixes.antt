@@ -1,41 +1,17 @@
 -- A field, an element and a method answer behind a value that answers.
-use Rattle.std.proofs.Common.{◌≡◌, ℕ, true, List, [], ◌∷◌, map, min, Option, Some, None, slice_get, refl, sym, ap, subst, ◌∙◌, if◌then◌else◌, arith}
-use Rattle.std.specs.List.{AllByRecursion}
-use Rattle.std.proofs.lemmas.Bool.{and_from}
-use Rattle.std.proofs.lemmas.Option.{slice_get_within}
-use Rattle.span_text.specs.declared.spot.Spot.{Spot}
-use Rattle.epl_values.specs.declared.shape.Field.{Field}
-use Rattle.epl_values.specs.declared.shape.EventShape.{EventShape}
-use Rattle.epl_values.specs.declared.shape.Shape.{Shape, Shape-F, out-Shape}
+use Rattle.program_laws.proofs.Common.{◌≡◌, ℕ, true, List, [], ◌∷◌, map, min, Option, Some, None, slice_get, refl, sym, ap, subst, ◌∙◌, if◌then◌else◌, arith, AllByRecursion, and_from, slice_get_within, Spot, Field, EventShape, Shape, Shape-F, out-Shape, TypedExpr, Method, same, stands, Signature, Names, checked, is_of, are_of, agrees, may_stand, if_known, field_shape, shape_in, Scope, Table, Found, Arguments, Called, MethodCall, Reach, Root, Judged, Walk, Demand, Value, Exactly, fields_at, arguments_found, count_code, wants_of_shapes, row_of, unknown_call, called_by, called_on, called_of, method_reach, Part, change_code, shape_given, reached, missing_field, field_reach, field_named, field_found, element_reach_layer, near, is_far, nearer, index_found, called_found, method_found, KnowsTable, KnowsType, gives_result}
 use Rattle.epl_values.specs.declared.shape.Shape.TheVariants as shape
 use Rattle.epl_values.specs.declared.shape.Shape.TheOpen as layer
-use Rattle.typed_program.specs.declared.expression.TypedExpr.{TypedExpr}
 use Rattle.typed_program.specs.declared.expression.TypedSuffixNode.TheVariants as suffix
 use Rattle.typed_program.specs.declared.expression.TypedNode.TheOpen as typed
-use Rattle.typed_program.specs.declared.expression.Method.{Method}
-use Rattle.typed_program.specs.Shapes.{same, stands}
-use Rattle.typed_program.specs.Methods.{Signature, signature}
-use Rattle.typed_program.specs.Expressions.{Names, checked, is_of, are_of, agrees, may_stand, if_known, field_shape, field_leads, shape_in, item_leads, key_leads, method_leads}
+use Rattle.typed_program.specs.Methods.{signature}
+use Rattle.typed_program.specs.Expressions.{field_leads, item_leads, key_leads, method_leads}
 use Rattle.typed_program.specs.Expressions.{fields_at as typed_fields_at}
-use Rattle.type_table.specs.declared.scope.Scope.{Scope}
-use Rattle.type_table.specs.declared.table.Table.{Table}
-use Rattle.type_table.specs.Found.{Found}
 use Rattle.expr_rules.specs.declared.asked.Paths.TheVariants as paths
-use Rattle.expr_rules.specs.declared.calls.Arguments.{Arguments}
-use Rattle.expr_rules.specs.declared.methods.Called.{Called}
-use Rattle.expr_rules.specs.declared.methods.MethodCall.{MethodCall}
-use Rattle.expr_rules.specs.declared.methods.Reach.{Reach}
-use Rattle.expr_rules.specs.declared.placed.Root.{Root}
-use Rattle.expr_rules.specs.declared.placed.Judged.{Judged}
-use Rattle.expr_rules.specs.declared.steps.Walk.{Walk}
-use Rattle.expr_rules.specs.Asked.{Demand, Value, Exactly, plain}
-use Rattle.expr_rules.specs.Calls.{fields_at, arguments_found, count_code}
-use Rattle.expr_rules.specs.Methods.{wants_of_shapes, row_of, unknown_call, called_by, called_on, called_of, changes, method_reach, method_named}
-use Rattle.expr_rules.specs.Operators.{Part}
-use Rattle.expr_rules.specs.Places.{change_code, shape_given}
-use Rattle.expr_rules.specs.Postfix.{reached, missing_field, field_reach, field_at, place_of, field_named, field_in, field_of, field_found, index_wish_layer, index_wish, element_reach_layer, element_reach, near, is_far, nearer, element_step, index_found, method_stands, called_found, method_found}
+use Rattle.expr_rules.specs.Asked.{plain}
+use Rattle.expr_rules.specs.Methods.{changes, method_named}
+use Rattle.expr_rules.specs.Postfix.{field_at, place_of, field_in, field_of, index_wish_layer, index_wish, element_reach, element_step, method_stands}
 use Rattle.expr_rules.specs.Then.{and_then}
-use Rattle.program_laws.specs.Known.{KnowsTable, KnowsType, gives_result}
 use Rattle.program_laws.proofs.Exprs.Sure.{Sure, sure_then, sure_node}
 use Rattle.program_laws.proofs.Exprs.Alike.{same_self}
 use Rattle.program_laws.proofs.Exprs.Standing.{integer_stands, item_stands, entry_stands}

@@ -1,9 +1,6 @@
 -- What holds of a part in which no fault is found.
-use Rattle.std.proofs.Common.{◌≡◌, ℕ, List, [], ◌∷◌, Option, Some, None, refl}
-use Rattle.std.specs.List.{AllByRecursion}
-use Rattle.span_text.specs.declared.spot.Spot.{Spot}
-use Rattle.type_table.specs.Found.{Found}
-use Rattle.expr_rules.specs.Then.{and_then, sound, through, node, codes_of}
+use Rattle.program_laws.proofs.Common.{◌≡◌, ℕ, List, [], ◌∷◌, Option, Some, None, refl, AllByRecursion, Spot, Found, sound, codes_of}
+use Rattle.expr_rules.specs.Then.{and_then, through, node}
 use Rattle.program_laws.proofs.Shapes.Lists.{no_both, no_told}
 
 pub record Sure {A : Type 0} (P : A → Type 0) (found : Found A) : Type 0 where

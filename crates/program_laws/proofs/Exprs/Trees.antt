@@ -1,24 +1,10 @@
 -- Every expression answers, and every step behind a value.
-use Rattle.std.proofs.Common.{List, [], ◌∷◌, map, refl}
-use Rattle.std.specs.List.{AllByRecursion}
-use Rattle.span_text.specs.declared.spot.Spot.{Spot}
-use Rattle.epl_tree.specs.declared.expression.Expr.{Expr}
-use Rattle.epl_tree.specs.declared.expression.Suffix.{Suffix}
-use Rattle.typed_program.specs.Expressions.{Names}
-use Rattle.type_table.specs.declared.scope.Scope.{Scope}
-use Rattle.type_table.specs.declared.table.Table.{Table}
-use Rattle.expr_rules.specs.declared.placed.Judged.{Judged}
-use Rattle.expr_rules.specs.Asked.{Demand, inside}
-use Rattle.expr_rules.specs.Literals.{Pair}
-use Rattle.expr_rules.specs.Operators.{Part, Linked}
-use Rattle.expr_rules.specs.Places.{group_of, astray_code}
-use Rattle.expr_rules.specs.Postfix.{Step, leads}
-use Rattle.expr_rules.specs.Then.{and_then, codes_of}
+use Rattle.program_laws.proofs.Common.{List, [], ◌∷◌, map, refl, AllByRecursion, Spot, Expr, Suffix, Names, Scope, Table, Judged, Demand, inside, Pair, Part, Linked, astray_code, Step, codes_of, KnowsTable, KnowsNamed, any_of, expr_names, suffix_names, bytes_eq-Decides}
+use Rattle.expr_rules.specs.Places.{group_of}
+use Rattle.expr_rules.specs.Postfix.{leads}
+use Rattle.expr_rules.specs.Then.{and_then}
 use Rattle.expr_check.specs.Expressions.{part_of, step_of}
-use Rattle.program_laws.specs.Known.{KnowsTable, KnowsNamed}
-use Rattle.stmt_check.specs.Captures.{any_of, expr_names, suffix_names}
 use Rattle.stmt_check.specs.Captures.{Names as Naming}
-use Rattle.std.proofs.lemmas.Slice.Eq.{bytes_eq-Decides}
 use Rattle.program_laws.proofs.Exprs.Inductions.{Each, Forms, part_is, step_is}
 use Rattle.program_laws.proofs.Exprs.Knowing.{knows_left, knows_right, knows_first, knows_rest}
 use Rattle.program_laws.proofs.Exprs.Sure.{Sure, sure_then, sure_node}

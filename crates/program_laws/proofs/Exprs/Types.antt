@@ -1,21 +1,12 @@
 -- A type in which no fault is found stands.
-use Rattle.std.proofs.Common.{◌≡◌, ℕ, ◌<◌, true, List, ◌++◌, length, min, Option, Some, None, refl, sym, subst, arith}
-use Rattle.std.proofs.lemmas.Bool.{lt-ltb}
-use Rattle.span_text.specs.declared.spot.Spot.{Spot}
-use Rattle.epl_values.specs.declared.shape.Shape.{Shape}
-use Rattle.epl_tree.specs.declared.types.TypeExpr.{TypeExpr, TypeExpr-F, map-TypeExpr, roll-TypeExpr, fold-roll-TypeExpr, ind-TypeExpr}
-use Rattle.epl_tree.specs.declared.types.TypeNode.{TypeNode, TypeNode-F, map-TypeNode, roll-TypeNode, fold-TypeNode, fold-roll-TypeNode}
+use Rattle.program_laws.proofs.Common.{◌≡◌, ℕ, ◌<◌, true, List, ◌++◌, length, min, Option, Some, None, refl, sym, subst, arith, lt-ltb, Spot, Shape, TypeExpr, TypeNode, stands, Names, Scope, Table, Found, told, event_of, Written, node_found, written_step, written_of, type_found, KnowsTable}
+use Rattle.epl_tree.specs.declared.types.TypeExpr.{TypeExpr-F, map-TypeExpr, roll-TypeExpr, fold-roll-TypeExpr, ind-TypeExpr}
+use Rattle.epl_tree.specs.declared.types.TypeNode.{TypeNode-F, map-TypeNode, roll-TypeNode, fold-TypeNode, fold-roll-TypeNode}
 use Rattle.epl_tree.specs.declared.types.TypeNode.TheOpen as node
-use Rattle.typed_program.specs.Shapes.{stands, is_scalar}
-use Rattle.typed_program.specs.Expressions.{Names}
-use Rattle.type_table.specs.declared.scope.Scope.{Scope}
-use Rattle.type_table.specs.declared.table.Table.{Table}
-use Rattle.type_table.specs.Found.{Found, told}
-use Rattle.type_table.specs.Table.{event_of}
-use Rattle.type_table.specs.Types.{Written, event_shape, key_codes, sequence_of, dictionary_of, node_found, written_step, written_of, type_found}
+use Rattle.typed_program.specs.Shapes.{is_scalar}
+use Rattle.type_table.specs.Types.{event_shape, key_codes, sequence_of, dictionary_of}
 use Rattle.expr_rules.specs.Literals.{new_stands}
 use Rattle.expr_rules.specs.Then.{and_then}
-use Rattle.program_laws.specs.Known.{KnowsTable}
 use Rattle.program_laws.proofs.Exprs.Sure.{Sure, sure_then}
 use Rattle.program_laws.proofs.Exprs.Standing.{integer_stands, boolean_stands, text_stands, context_stands, listener_stands, event_stands, sequence_stands, dictionary_stands}
 use Rattle.program_laws.proofs.Exprs.Answering.{Answering, Answers}

@@ -1,27 +1,11 @@
 -- A value with steps behind it answers, and so does a place that is assigned.
-use Rattle.std.proofs.Common.{◌≡◌, ℕ, suc, ◌+◌, ◌-◌, Bool, true, false, List, [], ◌∷◌, map, length, Option, Some, None, refl, sym, ap, subst, ◌∙◌, arith}
-use Rattle.std.specs.List.{AllByRecursion}
-use Rattle.std.proofs.lemmas.Bool.{and_from}
-use Rattle.span_text.specs.declared.spot.Spot.{Spot}
-use Rattle.epl_values.specs.declared.shape.Shape.{Shape}
-use Rattle.typed_program.specs.declared.expression.TypedExpr.{TypedExpr, out-TypedExpr}
+use Rattle.program_laws.proofs.Common.{◌≡◌, ℕ, suc, ◌+◌, ◌-◌, Bool, true, false, List, [], ◌∷◌, map, length, Option, Some, None, refl, sym, ap, subst, ◌∙◌, arith, AllByRecursion, and_from, Spot, Shape, TypedExpr, out-TypedExpr, TypedSuffix, Variable, stands, Names, checked, holds, shape_of, stepping, walks, variable_shape, Found, Judged, Walk, Demand, Wish, Value, Part, Step, demand_before, walk_start, step_found, walk_found, postfix_found, Target, variable_of, target_at, target_of, wish_stands}
 use Rattle.typed_program.specs.declared.expression.TypedNode.TheVariants as made
 use Rattle.typed_program.specs.declared.expression.TypedNode.TheOpen as typed
-use Rattle.typed_program.specs.declared.expression.TypedSuffix.{TypedSuffix}
-use Rattle.typed_program.specs.declared.statement.Variable.{Variable}
-use Rattle.typed_program.specs.Shapes.{stands}
-use Rattle.typed_program.specs.Expressions.{Names, checked, holds, shape_of, stepping, walks}
-use Rattle.typed_program.specs.Statements.{variable_shape}
-use Rattle.type_table.specs.Found.{Found}
-use Rattle.expr_rules.specs.declared.placed.Judged.{Judged}
-use Rattle.expr_rules.specs.declared.steps.Walk.{Walk}
-use Rattle.expr_rules.specs.Asked.{Demand, Wish, Value, assigned}
-use Rattle.expr_rules.specs.Operators.{Part}
-use Rattle.expr_rules.specs.Postfix.{Step, demand_before, walk_start, step_found, postfix_of, walked_from, walk_found, postfix_rest, postfix_found}
+use Rattle.expr_rules.specs.Asked.{assigned}
+use Rattle.expr_rules.specs.Postfix.{postfix_of, walked_from, postfix_rest}
 use Rattle.expr_rules.specs.Then.{and_then, through}
-use Rattle.expr_check.specs.declared.check.Target.{Target}
-use Rattle.expr_check.specs.Checks.{variable_of, target_at, target_of, target}
-use Rattle.program_laws.specs.Known.{wish_stands}
+use Rattle.expr_check.specs.Checks.{target}
 use Rattle.program_laws.proofs.Exprs.Sure.{Sure, sure_then, sure_sound}
 use Rattle.program_laws.proofs.Exprs.Holding.{node_checked, rolled, checked_shape}
 use Rattle.program_laws.proofs.Exprs.Answering.{Answering, Answers, made_answers, some_known}

@@ -1,28 +1,9 @@
 -- Expressions, places and arguments in which no fault is found keep the rules of paths and changes, and what they name in the
 -- text their typed trees mention by number.
-use Rattle.std.proofs.Common.{◌≡◌, ℕ, Bool, false, true, List, [], map, Some, refl}
-use Rattle.std.specs.List.{list_all}
-use Rattle.std.specs.Str.{bytes_eq}
-use Rattle.std.proofs.lemmas.Slice.Eq.{bytes_eq-Decides}
-use Rattle.epl_tree.specs.declared.expression.Expr.{Expr}
-use Rattle.epl_tree.specs.declared.statement.Place.{Place}
-use Rattle.typed_program.specs.declared.expression.TypedExpr.{TypedExpr}
-use Rattle.typed_program.specs.Expressions.{Names}
-use Rattle.typed_program.specs.Mentions.{Mention, mentions, all_mention, place_mentions}
-use Rattle.typed_program.specs.Paths.{Sight, plain, path_of}
-use Rattle.type_table.specs.declared.scope.Scope.{Scope}
-use Rattle.type_table.specs.declared.scope.Seen.{Seen}
-use Rattle.type_table.specs.declared.table.ParamHead.{ParamHead}
-use Rattle.type_table.specs.declared.table.Table.{Table}
-use Rattle.expr_rules.specs.Asked.{Demand}
-use Rattle.expr_rules.specs.Calls.{typed_arguments}
-use Rattle.expr_rules.specs.Names.{seen}
+use Rattle.program_laws.proofs.Common.{◌≡◌, ℕ, Bool, false, true, List, [], map, Some, refl, list_all, bytes_eq, bytes_eq-Decides, Expr, Place, TypedExpr, Names, Mention, mentions, all_mention, place_mentions, Sight, path_of, Scope, Seen, ParamHead, Table, Demand, typed_arguments, seen, place_found, expr_found, typed_of, any_of, expr_names, suffix_names, place_names, exprs_name, KnowsTable, KnowsNamed, SeesNamed, KeepsSpecial, permitted, Mentioned}
+use Rattle.typed_program.specs.Paths.{plain}
 use Rattle.expr_rules.specs.Places.{is_global}
-use Rattle.expr_check.specs.Checks.{place_found}
-use Rattle.expr_check.specs.Expressions.{expr_found, typed_of, part_of, step_of}
-use Rattle.stmt_check.specs.Captures.{any_of, expr_names, suffix_names, place_names, exprs_name}
-use Rattle.program_laws.specs.Known.{KnowsTable, KnowsNamed}
-use Rattle.program_laws.specs.Sees.{SeesNamed, KeepsSpecial, permitted, Mentioned}
+use Rattle.expr_check.specs.Expressions.{part_of, step_of}
 use Rattle.program_laws.proofs.Exprs.Knowing.{knows_left}
 use Rattle.program_laws.proofs.Exprs.Sure.{sure_then, sure_sound}
 use Rattle.program_laws.proofs.Lawful.Calls.{typed_kept}

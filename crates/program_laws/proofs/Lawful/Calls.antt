@@ -1,36 +1,13 @@
 -- Calls keep the rules, where their arguments do: no path of a global is an argument, and neither `onload` nor `ondie` is called.
-use Rattle.std.proofs.Common.{◌≡◌, ℕ, Bool, true, false, ◌&&◌, not, List, [], ◌∷◌, ◌++◌, map, min, Option, Some, None, slice_get, refl, sym, ap, subst, ◌∙◌, if◌then◌else◌, ◌==◌}
-use Rattle.std.specs.List.{list_all, list_any, position, AllByRecursion}
-use Rattle.std.specs.Str.{bytes_eq}
-use Rattle.std.proofs.lemmas.Bool.{and_from}
-use Rattle.std.proofs.lemmas.List.Folds.{list_all-map}
-use Rattle.std.proofs.lemmas.List.Quantifiers.{position-Some}
-use Rattle.std.proofs.lemmas.Option.{get_or_from_slice_get}
-use Rattle.std.proofs.lemmas.Slice.Eq.{bytes_eq-Decides}
-use Rattle.span_text.specs.declared.spot.Spot.{Spot}
-use Rattle.epl_values.specs.declared.shape.Shape.{Shape}
+use Rattle.program_laws.proofs.Common.{◌≡◌, ℕ, Bool, true, false, ◌&&◌, not, List, [], ◌∷◌, ◌++◌, map, min, Option, Some, None, slice_get, refl, sym, ap, subst, ◌∙◌, if◌then◌else◌, ◌==◌, list_all, list_any, position, AllByRecursion, bytes_eq, and_from, list_all-map, position-Some, get_or_from_slice_get, bytes_eq-Decides, Spot, Shape, Field, TypedExpr, Sight, argument, value, path_of, Scope, Table, ActionHead, MonitorHead, ParamHead, event_of, Paths, Arguments, Demand, asked_by, next_wish, argument_of, argument_found, arguments_found, no_arguments, fields_at, param_wants, is_callback, action_named, count_code, event_plan, action_plan, missing_plan, plan_of, callee_code, plan_found, call_found, context_code, context_start, context_found, items_of, typed_arguments, item_at, Part, lower, KeepsSpecial, permitted}
 use Rattle.epl_values.specs.declared.shape.Shape.TheVariants as shape
-use Rattle.epl_values.specs.declared.shape.Field.{Field}
-use Rattle.typed_program.specs.declared.expression.TypedExpr.{TypedExpr}
 use Rattle.typed_program.specs.declared.expression.TypedNode.TheVariants as made
 use Rattle.typed_program.specs.declared.expression.TypedNode.TheOpen as typed
-use Rattle.typed_program.specs.Paths.{Sight, plain, argument, value, path_of}
-use Rattle.type_table.specs.declared.scope.Scope.{Scope}
-use Rattle.type_table.specs.declared.table.Table.{Table}
-use Rattle.type_table.specs.declared.table.ActionHead.{ActionHead}
-use Rattle.type_table.specs.declared.table.MonitorHead.{MonitorHead}
-use Rattle.type_table.specs.declared.table.ParamHead.{ParamHead}
-use Rattle.type_table.specs.Table.{event_of, action_of}
-use Rattle.expr_rules.specs.declared.asked.Paths.{Paths}
+use Rattle.typed_program.specs.Paths.{plain}
+use Rattle.type_table.specs.Table.{action_of}
 use Rattle.expr_rules.specs.declared.asked.Paths.TheVariants as paths
-use Rattle.expr_rules.specs.declared.calls.Arguments.{Arguments}
 use Rattle.expr_rules.specs.declared.placed.Gives.TheVariants as gives
-use Rattle.expr_rules.specs.Asked.{Demand, asked_by}
-use Rattle.expr_rules.specs.Calls.{next_wish, argument_of, argument_found, arguments_found, no_arguments, fields_at, param_wants, is_callback, callback_code, action_in, action_named, count_code, event_plan, action_plan, missing_plan, plan_of, callee_code, call_stands, plan_found, call_found, context_code, context_stands, context_start, context_found, items_of, typed_arguments}
-use Rattle.expr_rules.specs.Names.{item_at}
-use Rattle.expr_rules.specs.Operators.{Part}
-use Rattle.expr_rules.specs.Then.{lower}
-use Rattle.program_laws.specs.Sees.{KeepsSpecial, permitted}
+use Rattle.expr_rules.specs.Calls.{callback_code, action_in, call_stands, context_stands}
 use Rattle.program_laws.proofs.Exprs.Sure.{Sure, sure_then, sure_sound, sure_through}
 use Rattle.program_laws.proofs.Exprs.Chains.{all_push}
 use Rattle.program_laws.proofs.Lawful.Paths.{node_pathed, pathed}

@@ -1,29 +1,13 @@
 -- Literals keep the rules, where their elements and entries do.
-use Rattle.std.proofs.Common.{◌≡◌, ℕ, ℤ, pos, Bool, true, ◌&&◌, List, [], ◌∷◌, ◌++◌, map, Option, Some, None, refl, ap, ◌∙◌}
-use Rattle.std.specs.List.{list_all, AllByRecursion}
-use Rattle.std.proofs.lemmas.Bool.{and_from}
-use Rattle.span_text.specs.declared.spot.Spot.{Spot}
-use Rattle.epl_values.specs.declared.shape.Shape.{Shape}
+use Rattle.program_laws.proofs.Common.{◌≡◌, ℕ, ℤ, pos, Bool, true, ◌&&◌, List, [], ◌∷◌, ◌++◌, map, Option, Some, None, refl, ap, ◌∙◌, list_all, AllByRecursion, and_from, Spot, Shape, TypeExpr, TypedEntry, roll-TypedEntry, TypedExpr, roll-TypedExpr, TypedNode, Sight, value, path_of, Table, type_found, Elements, EntryList, Gives, Judged, Demand, Wish, Pair, literal_stands, integer_stands, integer_found, integer_value, greatest, fixed, empty_code, empty_stands, text_stands, boolean_stands, current_stands, element_found, no_elements, sequence_items, sequence_given, sequence_found, known_first, entry_found, key_wish, no_entries, dictionary_given, dictionary_items, dictionary_found, element_wish, value_wish, Part, shape_of_expr}
 use Rattle.epl_values.specs.declared.shape.Shape.TheVariants as shape
-use Rattle.epl_tree.specs.declared.types.TypeExpr.{TypeExpr}
-use Rattle.typed_program.specs.declared.expression.TypedEntry.{TypedEntry, roll-TypedEntry}
-use Rattle.typed_program.specs.declared.expression.TypedExpr.{TypedExpr, roll-TypedExpr}
-use Rattle.typed_program.specs.declared.expression.TypedNode.{TypedNode}
 use Rattle.typed_program.specs.declared.expression.TypedNode.TheVariants as made
 use Rattle.typed_program.specs.declared.expression.TypedNode.TheOpen as typed
-use Rattle.typed_program.specs.Paths.{Sight, Pair as PathPair, plain, value, path_of}
-use Rattle.type_table.specs.declared.table.Table.{Table}
-use Rattle.type_table.specs.Types.{type_found}
-use Rattle.expr_rules.specs.declared.literals.Elements.{Elements}
-use Rattle.expr_rules.specs.declared.literals.EntryList.{EntryList}
-use Rattle.expr_rules.specs.declared.placed.Gives.{Gives}
+use Rattle.typed_program.specs.Paths.{Pair as PathPair, plain}
 use Rattle.expr_rules.specs.declared.placed.Gives.TheVariants as gives
-use Rattle.expr_rules.specs.declared.placed.Judged.{Judged}
-use Rattle.expr_rules.specs.Asked.{Demand, Wish}
 use Rattle.expr_rules.specs.Asked.{plain as plainly}
-use Rattle.expr_rules.specs.Literals.{Pair, literal, literal_stands, integer_stands, integer_found, integer_value, greatest, number_of, within, fixed, empty_code, empty_stands, text_stands, boolean_stands, current_stands, new_stands, element_of, element_found, no_elements, sequence_items, sequence_given, sequence_of, sequence_found, known_first, entry_of, value_found, entry_found, key_wish, no_entries, dictionary_given, dictionary_items, dictionary_of, dictionary_found, element_wish, value_wish}
-use Rattle.expr_rules.specs.Operators.{Part}
-use Rattle.expr_rules.specs.Places.{placed, shape_of_expr}
+use Rattle.expr_rules.specs.Literals.{literal, number_of, within, new_stands, element_of, sequence_of, entry_of, value_found, dictionary_of}
+use Rattle.expr_rules.specs.Places.{placed}
 use Rattle.typed_program.specs.Shapes.{is_sequence, is_dictionary}
 use Rattle.expr_rules.specs.Then.{and_then, through}
 use Rattle.program_laws.proofs.Exprs.Sure.{Sure, sure_then, sure_sound, sure_through, sure_any}

@@ -1,16 +1,7 @@
 -- What a typed expression mentions, by its node; and what is mentioned in a row that grows.
-use Rattle.std.proofs.Common.{◌≡◌, ℕ, Bool, true, false, ◌||◌, List, [], ◌∷◌, ◌++◌, map, Option, refl, sym, ap, ◌∙◌}
-use Rattle.std.specs.List.{list_any}
-use Rattle.std.proofs.lemmas.Bool.{or_left, or_right}
-use Rattle.epl_values.specs.declared.shape.Shape.{Shape}
-use Rattle.epl_tree.specs.declared.expression.Operator.{Operator}
-use Rattle.typed_program.specs.declared.expression.TypedExpr.{TypedExpr, out-TypedExpr, roll-TypedExpr, fold-roll-TypedExpr, fold_out-TypedExpr}
-use Rattle.typed_program.specs.declared.expression.TypedNode.{TypedNode, TypedNode-F, map-TypedNode, roll-TypedNode, fold-TypedNode, fold-roll-TypedNode}
-use Rattle.typed_program.specs.declared.expression.TypedEntry.{TypedEntry, roll-TypedEntry, fold-TypedEntry, fold-roll-TypedEntry}
-use Rattle.typed_program.specs.declared.expression.TypedLink.{TypedLink, roll-TypedLink, fold-TypedLink, fold-roll-TypedLink}
-use Rattle.typed_program.specs.declared.expression.TypedSuffix.{TypedSuffix, roll-TypedSuffix, fold-TypedSuffix, fold-roll-TypedSuffix}
-use Rattle.typed_program.specs.declared.expression.TypedSuffixNode.{TypedSuffixNode, TypedSuffixNode-F, map-TypedSuffixNode, roll-TypedSuffixNode, fold-TypedSuffixNode, fold-roll-TypedSuffixNode}
-use Rattle.typed_program.specs.Mentions.{Mention, either, node_mentions, step_mentions, entry_mentions, expr_mentions, link_mentions, suffix_mentions, mentions}
+use Rattle.program_laws.proofs.Common.{◌≡◌, ℕ, Bool, true, false, ◌||◌, List, [], ◌∷◌, ◌++◌, map, Option, refl, sym, ap, ◌∙◌, list_any, or_left, or_right, Shape, Operator, TypedExpr, out-TypedExpr, roll-TypedExpr, fold-roll-TypedExpr, fold_out-TypedExpr, TypedNode, TypedNode-F, map-TypedNode, roll-TypedNode, fold-TypedNode, fold-roll-TypedNode, TypedEntry, roll-TypedEntry, fold-TypedEntry, fold-roll-TypedEntry, TypedLink, roll-TypedLink, fold-TypedLink, fold-roll-TypedLink, TypedSuffix, roll-TypedSuffix, fold-roll-TypedSuffix, TypedSuffixNode, TypedSuffixNode-F, map-TypedSuffixNode, roll-TypedSuffixNode, fold-TypedSuffixNode, fold-roll-TypedSuffixNode, Mention, mentions}
+use Rattle.typed_program.specs.declared.expression.TypedSuffix.{fold-TypedSuffix}
+use Rattle.typed_program.specs.Mentions.{either, node_mentions, step_mentions, entry_mentions, expr_mentions, link_mentions, suffix_mentions}
 
 -- what a node mentions
 pub node_said : TypedNode → Mention

@@ -1,29 +1,14 @@
 -- A method keeps the rules behind a value, where its arguments do; one that changes its object stands where that may be changed.
-use Rattle.std.proofs.Common.{◌≡◌, ℕ, ◌||◌, not, Bool, true, false, List, [], map, Option, Some, None, is_some, refl, sym, ap, subst, ◌∙◌, true≢false}
-use Rattle.std.specs.List.{list_all, AllByRecursion}
-use Rattle.std.proofs.lemmas.Bool.{and_from}
-use Rattle.span_text.specs.declared.spot.Spot.{Spot}
-use Rattle.epl_values.specs.declared.shape.Shape.{Shape}
-use Rattle.typed_program.specs.declared.expression.Method.{Method}
-use Rattle.typed_program.specs.declared.expression.TypedExpr.{TypedExpr}
+use Rattle.program_laws.proofs.Common.{◌≡◌, ℕ, ◌||◌, not, Bool, true, false, List, [], map, Option, Some, None, is_some, refl, sym, ap, subst, ◌∙◌, true≢false, list_all, AllByRecursion, and_from, Spot, Shape, Method, TypedExpr, Signature, Sight, may_change, end_of, path_of, Arguments, Called, MethodCall, StepKind, Walk, Demand, arguments_found, count_code, no_arguments, is_change, unknown_call, called_by, called_on, called_of, method_reach, Part, change_code, method_kind, called_found, method_found}
 use Rattle.typed_program.specs.declared.expression.TypedNode.TheOpen as typed
 use Rattle.typed_program.specs.declared.expression.TypedSuffixNode.TheVariants as suffix
-use Rattle.typed_program.specs.Methods.{Signature, signature}
-use Rattle.typed_program.specs.Paths.{Sight, plain, may_change, going_method, end_of, path_of}
+use Rattle.typed_program.specs.Methods.{signature}
+use Rattle.typed_program.specs.Paths.{plain, going_method}
 use Rattle.typed_program.specs.Paths.{Root as Begins, changes as changing}
 use Rattle.expr_rules.specs.declared.asked.Paths.TheVariants as paths
-use Rattle.expr_rules.specs.declared.calls.Arguments.{Arguments}
-use Rattle.expr_rules.specs.declared.methods.Called.{Called}
-use Rattle.expr_rules.specs.declared.methods.MethodCall.{MethodCall}
-use Rattle.expr_rules.specs.declared.steps.StepKind.{StepKind}
 use Rattle.expr_rules.specs.declared.steps.StepKind.TheVariants as step
-use Rattle.expr_rules.specs.declared.steps.Walk.{Walk}
-use Rattle.expr_rules.specs.Asked.{Demand}
-use Rattle.expr_rules.specs.Calls.{arguments_found, count_code, no_arguments}
-use Rattle.expr_rules.specs.Methods.{changes, is_change, unknown_call, called_by, called_on, called_of, method_reach, method_named}
-use Rattle.expr_rules.specs.Operators.{Part}
-use Rattle.expr_rules.specs.Places.{change_code}
-use Rattle.expr_rules.specs.Postfix.{method_kind, method_stands, called_found, method_found}
+use Rattle.expr_rules.specs.Methods.{changes, method_named}
+use Rattle.expr_rules.specs.Postfix.{method_stands}
 use Rattle.program_laws.proofs.Exprs.Sure.{Sure, sure_then}
 use Rattle.program_laws.proofs.Exprs.Methods.{row_from, signature_same}
 use Rattle.program_laws.proofs.Lawful.Calls.{ArgumentsKept, arguments_kept, lower_second}

@@ -1,21 +1,11 @@
 -- A visible name keeps the rules; one in which no fault is found may be named, and is seen.
-use Rattle.std.proofs.Common.{◌≡◌, ℕ, Bool, true, false, ◌&&◌, Option, Some, None, refl, sym, ap, subst, ◌∙◌}
-use Rattle.span_text.specs.declared.spot.Spot.{Spot}
-use Rattle.epl_values.specs.declared.shape.Shape.{Shape}
-use Rattle.typed_program.specs.declared.expression.TypedNode.{TypedNode}
+use Rattle.program_laws.proofs.Common.{◌≡◌, ℕ, Bool, true, false, ◌&&◌, Option, Some, None, refl, sym, ap, subst, ◌∙◌, Spot, Shape, TypedNode, Sight, Visible, Path, Kind, is_reference_of, local, visible_at, Seen, SeenKind, Root, Demand, outer_code, variable, root_of, name_found, known, judged, shape_given, is_known_reference, SameRoot, SeesName, kind_seen, is_outer, is_barred}
 use Rattle.typed_program.specs.declared.expression.TypedNode.TheVariants as made
 use Rattle.typed_program.specs.declared.expression.TypedNode.TheOpen as typed
-use Rattle.typed_program.specs.Paths.{Sight, Visible, Path, Kind, Root as Begins, is_reference_of, stays, local, root_of as begins_of, global_root, visible_at}
-use Rattle.type_table.specs.declared.scope.Seen.{Seen}
-use Rattle.type_table.specs.declared.scope.SeenKind.{SeenKind}
+use Rattle.typed_program.specs.Paths.{Root as Begins, stays, root_of as begins_of, global_root}
 use Rattle.type_table.specs.declared.scope.SeenKind.TheVariants as kind
 use Rattle.expr_rules.specs.declared.placed.Gives.TheVariants as gives
-use Rattle.expr_rules.specs.declared.placed.Root.{Root}
-use Rattle.expr_rules.specs.Asked.{Demand}
-use Rattle.expr_rules.specs.Names.{outer_code, variable, root_of, name_found}
-use Rattle.expr_rules.specs.Places.{is_global, kind_is_fixed, known, placed, judged, shape_given}
-use Rattle.expr_rules.specs.Shapes.{is_known_reference}
-use Rattle.program_laws.specs.Sees.{SameRoot, SeesName, kind_seen, is_outer, is_barred}
+use Rattle.expr_rules.specs.Places.{is_global, kind_is_fixed, placed}
 use Rattle.program_laws.proofs.Exprs.Sure.{Sure, sure_then}
 use Rattle.program_laws.proofs.Lawful.Paths.{node_pathed, pathed}
 use Rattle.program_laws.proofs.Lawful.Standing.{Own, Standing, placed_kept, stands_kept, is_near}

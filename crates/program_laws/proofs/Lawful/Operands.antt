@@ -1,28 +1,13 @@
 -- Operators keep the rules, where their operands do.
-use Rattle.std.proofs.Common.{◌≡◌, Bool, true, false, ◌&&◌, List, [], ◌∷◌, ◌++◌, map, Option, Some, None, refl, ap, ◌∙◌, if◌then◌else◌}
-use Rattle.std.specs.List.{list_all, AllByRecursion}
-use Rattle.std.proofs.lemmas.Bool.{and_from}
-use Rattle.span_text.specs.declared.spot.Spot.{Spot}
-use Rattle.epl_values.specs.declared.shape.Shape.{Shape}
-use Rattle.epl_tree.specs.declared.expression.Comparison.{Comparison}
-use Rattle.epl_tree.specs.declared.expression.Operator.{Operator}
-use Rattle.typed_program.specs.declared.expression.TypedExpr.{TypedExpr, out-TypedExpr}
-use Rattle.typed_program.specs.declared.expression.TypedLink.{TypedLink, roll-TypedLink}
-use Rattle.typed_program.specs.declared.expression.TypedNode.{TypedNode}
+use Rattle.program_laws.proofs.Common.{◌≡◌, Bool, true, false, ◌&&◌, List, [], ◌∷◌, ◌++◌, map, Option, Some, None, refl, ap, ◌∙◌, if◌then◌else◌, list_all, AllByRecursion, and_from, Spot, Shape, Comparison, Operator, TypedExpr, out-TypedExpr, TypedLink, roll-TypedLink, TypedNode, Sight, Path, value, path_of, Sort, Logic, Level, Chain, LinkChain, Judged, Demand, operand, Part, Linked, sort_of_expr, truth, truths, addable, linked, given_by, operated, not_found, minus_found, comparison_found, join_found, with_operand, logic_node, chain_start, logic_found, with_link, link_found, level_node, links_start, links_found}
 use Rattle.typed_program.specs.declared.expression.TypedNode.TheVariants as made
 use Rattle.typed_program.specs.declared.expression.TypedNode.TheOpen as typed
-use Rattle.typed_program.specs.Paths.{Sight, Path, plain, all_plain, value, path_of}
-use Rattle.expr_rules.specs.declared.operators.Sort.{Sort}
-use Rattle.expr_rules.specs.declared.operators.Logic.{Logic}
+use Rattle.typed_program.specs.Paths.{plain, all_plain}
 use Rattle.expr_rules.specs.declared.operators.Logic.TheVariants as logic
-use Rattle.expr_rules.specs.declared.operators.Level.{Level}
 use Rattle.expr_rules.specs.declared.operators.Level.TheVariants as level
-use Rattle.expr_rules.specs.declared.operators.Chain.{Chain}
-use Rattle.expr_rules.specs.declared.operators.LinkChain.{LinkChain}
 use Rattle.expr_rules.specs.declared.placed.Gives.TheVariants as gives
-use Rattle.expr_rules.specs.declared.placed.Judged.{Judged}
-use Rattle.expr_rules.specs.Asked.{Demand, operand, negated}
-use Rattle.expr_rules.specs.Operators.{Part, Linked, sort_of_expr, truth, number, truths, addable, linked, compared, given_by, operated, paired, not_of, not_found, minus_of, minus_found, comparison_of, comparison_right, comparison_found, joined, join_found, with_operand, logic_node, chain_of, chain_start, logic_rest, logic_found, with_link, link_of, link_found, level_node, links_of, links_start, links_rest, links_found}
+use Rattle.expr_rules.specs.Asked.{negated}
+use Rattle.expr_rules.specs.Operators.{number, compared, paired, not_of, minus_of, comparison_of, comparison_right, joined, chain_of, logic_rest, link_of, links_of, links_rest}
 use Rattle.expr_rules.specs.Then.{through}
 use Rattle.program_laws.proofs.Exprs.Sure.{Sure, sure_then, sure_sound, sure_through, sure_any}
 use Rattle.program_laws.proofs.Exprs.Chains.{all_push}

@@ -1,34 +1,15 @@
 -- A place that is assigned keeps the rules: its variable is visible, its steps go on from there, and its end may be changed.
-use Rattle.std.proofs.Common.{◌≡◌, ℕ, ◌&&◌, Bool, true, false, List, map, length, Option, Some, None, is_some, slice_get, refl, sym, ap, subst, ◌∙◌}
-use Rattle.std.specs.List.{AllByRecursion}
-use Rattle.std.proofs.lemmas.Bool.{and_from}
-use Rattle.span_text.specs.declared.spot.Spot.{Spot}
-use Rattle.epl_values.specs.declared.shape.Shape.{Shape}
-use Rattle.typed_program.specs.declared.expression.TypedExpr.{TypedExpr, out-TypedExpr, roll-TypedExpr}
-use Rattle.typed_program.specs.declared.expression.TypedNode.{TypedNode}
+use Rattle.program_laws.proofs.Common.{◌≡◌, ℕ, ◌&&◌, Bool, true, false, List, map, length, Option, Some, None, is_some, slice_get, refl, sym, ap, subst, ◌∙◌, AllByRecursion, and_from, Spot, Shape, TypedExpr, out-TypedExpr, roll-TypedExpr, TypedNode, TypedSuffix, Site, Variable, Names, Sight, Visible, Path, is_reference_of, visible_at, goes, end_of, may_change, path_of, Seen, SeenKind, Judged, Walk, Demand, outer_code, variable, name_found, Part, known, Step, demand_before, walk_found, variable_layer, variable_of, target_at, target_of, Target, KnowsName, by_number, is_barred}
 use Rattle.typed_program.specs.declared.expression.TypedNode.TheVariants as made
-use Rattle.typed_program.specs.declared.expression.TypedSuffix.{TypedSuffix}
-use Rattle.typed_program.specs.declared.program.Site.{Site}
-use Rattle.typed_program.specs.declared.statement.Variable.{Variable}
 use Rattle.typed_program.specs.declared.statement.Variable.TheVariants as variables
 use Rattle.typed_program.specs.Courses.{place_root}
-use Rattle.typed_program.specs.Expressions.{Names}
-use Rattle.typed_program.specs.Paths.{Sight, Visible, Path, Root as Begins, is_reference_of, root_of as begins_of, visible_at, goes, end_of, may_change, path_of}
-use Rattle.type_table.specs.declared.scope.Seen.{Seen}
-use Rattle.type_table.specs.declared.scope.SeenKind.{SeenKind}
+use Rattle.typed_program.specs.Paths.{Root as Begins, root_of as begins_of}
 use Rattle.type_table.specs.declared.scope.SeenKind.TheVariants as kind
-use Rattle.expr_rules.specs.declared.placed.Judged.{Judged}
-use Rattle.expr_rules.specs.declared.steps.Walk.{Walk}
-use Rattle.expr_rules.specs.Asked.{Demand, assigned}
-use Rattle.expr_rules.specs.Names.{outer_code, variable, name_found}
-use Rattle.expr_rules.specs.Operators.{Part}
-use Rattle.expr_rules.specs.Places.{is_global, known, placed}
-use Rattle.expr_rules.specs.Postfix.{Step, leads, demand_before, walked_from, walk_found}
+use Rattle.expr_rules.specs.Asked.{assigned}
+use Rattle.expr_rules.specs.Places.{is_global, placed}
+use Rattle.expr_rules.specs.Postfix.{leads, walked_from}
 use Rattle.expr_rules.specs.Then.{and_then}
-use Rattle.expr_check.specs.Checks.{variable_layer, variable_of, target_at, target_of, target}
-use Rattle.expr_check.specs.declared.check.Target.{Target}
-use Rattle.program_laws.specs.Known.{KnowsName, by_number}
-use Rattle.program_laws.specs.Sees.{is_barred}
+use Rattle.expr_check.specs.Checks.{target}
 use Rattle.program_laws.proofs.Exprs.Sure.{Sure, sure_then, sure_sound}
 use Rattle.program_laws.proofs.Lawful.Names.{IfLocal, global_path, local_path, known_shape, outer_clear, outer_none, absent_never, name_kept}
 use Rattle.program_laws.proofs.Lawful.Paths.{node_pathed, path_made, node_of_made}

@@ -1,28 +1,8 @@
 -- What expressions, places, arguments and event expressions keep where no fault is found in them.
-use Rattle.std.proofs.Common.{◌≡◌, ℕ, length, map, List, [], Bool, true, false}
-use Rattle.std.specs.List.{list_all}
-use Rattle.epl_tree.specs.declared.event.EventExpr.{EventExpr}
-use Rattle.epl_tree.specs.declared.expression.Expr.{Expr}
-use Rattle.epl_tree.specs.declared.statement.Place.{Place}
-use Rattle.typed_program.specs.declared.program.Site.{Site}
-use Rattle.typed_program.specs.declared.program.TypedTerm.{TypedTerm}
+use Rattle.program_laws.proofs.Common.{◌≡◌, ℕ, length, map, List, [], Bool, true, false, list_all, EventExpr, Expr, Place, Site, TypedTerm, assigns, Names, mentions, all_mention, place_mentions, Sight, Visible, path_of, term_lawful, Scope, ParamHead, Table, Demand, typed_arguments, place_found, expr_found, term_found, expr_names, place_names, event_names, exprs_name, KnowsTable, KnowsNamed, SeesNamed, KeepsSpecial, permitted, Mentioned}
 use Rattle.typed_program.specs.declared.statement.TypedPlace.{TypedPlace}
-use Rattle.typed_program.specs.Courses.{assigns}
-use Rattle.typed_program.specs.Expressions.{Names}
-use Rattle.typed_program.specs.Mentions.{mentions, all_mention, place_mentions}
-use Rattle.typed_program.specs.Paths.{Sight, Visible, plain, path_of}
-use Rattle.typed_program.specs.TermRules.{term_lawful}
-use Rattle.type_table.specs.declared.scope.Scope.{Scope}
-use Rattle.type_table.specs.declared.table.ParamHead.{ParamHead}
-use Rattle.type_table.specs.declared.table.Table.{Table}
-use Rattle.expr_rules.specs.Asked.{Demand}
-use Rattle.expr_rules.specs.Calls.{typed_arguments}
-use Rattle.expr_check.specs.Checks.{place_found}
-use Rattle.expr_check.specs.Expressions.{expr_found, part_of as expr_part}
-use Rattle.listener_check.specs.Terms.{term_found}
-use Rattle.stmt_check.specs.Captures.{expr_names, place_names, event_names, exprs_name}
-use Rattle.program_laws.specs.Known.{KnowsTable, KnowsNamed}
-use Rattle.program_laws.specs.Sees.{SeesNamed, KeepsSpecial, permitted, Mentioned}
+use Rattle.typed_program.specs.Paths.{plain}
+use Rattle.expr_check.specs.Expressions.{part_of as expr_part}
 
 -- a place that is assigned: a visible variable, steps that keep the rules, and an end that may be changed
 pub record PlaceLawful (names : Names) (sight : Sight) (place : TypedPlace) : Type 0 where

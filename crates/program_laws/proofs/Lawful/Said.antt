@@ -1,11 +1,6 @@
 -- Every expression mentions what it names.
-use Rattle.std.proofs.Common.{◌≡◌, ℕ, false, List, Some}
-use Rattle.type_table.specs.declared.scope.Scope.{Scope}
-use Rattle.type_table.specs.declared.scope.Seen.{Seen}
-use Rattle.type_table.specs.declared.table.Table.{Table}
-use Rattle.type_table.specs.Types.{type_found}
-use Rattle.expr_rules.specs.Literals.{integer_found, text_stands, boolean_stands, current_stands, new_stands}
-use Rattle.expr_rules.specs.Names.{seen}
+use Rattle.program_laws.proofs.Common.{◌≡◌, ℕ, false, List, Some, Scope, Seen, Table, type_found, integer_found, text_stands, boolean_stands, current_stands, seen}
+use Rattle.expr_rules.specs.Literals.{new_stands}
 use Rattle.expr_rules.specs.Places.{is_global}
 use Rattle.expr_rules.specs.Then.{and_then}
 use Rattle.program_laws.proofs.Lawful.Saying.{PartSays}

@@ -1,26 +1,11 @@
 -- What is named in the text is mentioned in the typed tree: what this means of parts, of rows of parts, and of a node at its place.
-use Rattle.std.proofs.Common.{◌≡◌, ℕ, true, ◌||◌, List, [], ◌∷◌, Option, Some, None, false, sym, subst, true≢false, ◌⊎◌, inl, inr}
-use Rattle.std.proofs.lemmas.Bool.{or_cases, or_left, or_right}
-use Rattle.span_text.specs.declared.spot.Spot.{Spot}
-use Rattle.epl_values.specs.declared.shape.Shape.{Shape}
-use Rattle.typed_program.specs.declared.expression.TypedExpr.{roll-TypedExpr}
-use Rattle.typed_program.specs.declared.expression.TypedNode.{TypedNode}
-use Rattle.typed_program.specs.Mentions.{Mention, either, mentions}
-use Rattle.type_table.specs.declared.scope.Seen.{Seen}
-use Rattle.type_table.specs.Found.{Found}
-use Rattle.expr_rules.specs.declared.operators.Sort.{Sort}
-use Rattle.expr_rules.specs.declared.placed.Gives.{Gives}
+use Rattle.program_laws.proofs.Common.{◌≡◌, ℕ, true, ◌||◌, List, [], ◌∷◌, Option, Some, None, false, sym, subst, true≢false, ◌⊎◌, inl, inr, or_cases, or_left, or_right, Spot, Shape, roll-TypedExpr, TypedNode, Mention, mentions, Seen, Found, Sort, Gives, Judged, Root, Demand, Part, operated, given_by, judged, any_of, is_barred}
+use Rattle.typed_program.specs.Mentions.{either}
 use Rattle.expr_rules.specs.declared.placed.Gives.TheVariants as gives
-use Rattle.expr_rules.specs.declared.placed.Judged.{Judged}
-use Rattle.expr_rules.specs.declared.placed.Root.{Root}
-use Rattle.expr_rules.specs.Asked.{Demand}
-use Rattle.expr_rules.specs.Operators.{Part, operated, given_by}
-use Rattle.expr_rules.specs.Places.{placed, judged}
+use Rattle.expr_rules.specs.Places.{placed}
 use Rattle.expr_rules.specs.Places.{stands as placed_stands}
 use Rattle.expr_rules.specs.Then.{and_then, through}
-use Rattle.stmt_check.specs.Captures.{any_of}
 use Rattle.stmt_check.specs.Captures.{Names as Naming}
-use Rattle.program_laws.specs.Sees.{is_barred}
 use Rattle.program_laws.proofs.Exprs.Sure.{Sure, sure_then, sure_sound, sure_any}
 use Rattle.program_laws.proofs.Lawful.Mentioning.{node_said, said_made}
 use Rattle.program_laws.proofs.Exprs.Inductions.{Each}

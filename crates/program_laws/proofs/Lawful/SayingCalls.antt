@@ -1,41 +1,20 @@
 -- What is named in arguments, elements and entries is mentioned in the typed tree, and so is a name that stands alone.
-use Rattle.std.proofs.Common.{◌≡◌, ℕ, Bool, true, false, List, [], ◌∷◌, ◌++◌, map, Option, Some, None, refl, sym, ap, subst, ◌∙◌, true≢false, ◌⊎◌, inl, inr}
-use Rattle.std.specs.Str.{bytes_eq}
-use Rattle.std.proofs.lemmas.Bool.{eq-eqb}
-use Rattle.std.proofs.lemmas.Slice.Eq.{bytes_eq-Decides}
-use Rattle.span_text.specs.declared.spot.Spot.{Spot}
-use Rattle.epl_values.specs.declared.shape.Shape.{Shape}
+use Rattle.program_laws.proofs.Common.{◌≡◌, ℕ, Bool, true, false, List, [], ◌∷◌, ◌++◌, map, Option, Some, None, refl, sym, ap, subst, ◌∙◌, true≢false, ◌⊎◌, inl, inr, bytes_eq, eq-eqb, bytes_eq-Decides, Spot, Shape, TypedEntry, roll-TypedEntry, TypedExpr, Mention, mentions, all_mention, Scope, Seen, SeenKind, ParamHead, Table, event_of, Arguments, Elements, EntryList, Gives, Judged, Demand, asked_by, inside, next_wish, argument_of, argument_found, arguments_found, no_arguments, param_wants, action_named, plan_of, callee_node, callee_code, plan_found, call_found, context_code, context_start, context_found, call_paths, items_of, typed_arguments, Pair, element_found, no_elements, sequence_items, sequence_given, sequence_found, known_first, entry_found, key_wish, no_entries, dictionary_given, dictionary_items, dictionary_found, element_wish, value_wish, seen, outer_code, variable, root_of, name_found, Part, known, astray_code, shape_of_expr, codes_of, any_of}
 use Rattle.epl_values.specs.declared.shape.Shape.TheVariants as shape
-use Rattle.typed_program.specs.declared.expression.TypedEntry.{TypedEntry, roll-TypedEntry}
-use Rattle.typed_program.specs.declared.expression.TypedExpr.{TypedExpr}
 use Rattle.typed_program.specs.declared.expression.TypedNode.TheVariants as made
 use Rattle.typed_program.specs.declared.expression.TypedNode.TheOpen as typed
-use Rattle.typed_program.specs.Mentions.{Mention, either, mentions, all_mention}
+use Rattle.typed_program.specs.Mentions.{either}
 use Rattle.typed_program.specs.Mentions.{any_of as any_mention}
-use Rattle.type_table.specs.declared.scope.Scope.{Scope}
-use Rattle.type_table.specs.declared.scope.Seen.{Seen}
-use Rattle.type_table.specs.declared.scope.SeenKind.{SeenKind}
 use Rattle.type_table.specs.declared.scope.SeenKind.TheVariants as kind
-use Rattle.type_table.specs.declared.table.ParamHead.{ParamHead}
-use Rattle.type_table.specs.declared.table.Table.{Table}
-use Rattle.type_table.specs.Table.{event_of}
-use Rattle.expr_rules.specs.declared.calls.Arguments.{Arguments}
 use Rattle.expr_rules.specs.declared.calls.CalleeKind.{CalleeKind}
 use Rattle.expr_rules.specs.declared.calls.CalleeKind.TheVariants as callee
 use Rattle.expr_rules.specs.declared.calls.CallPlan.{CallPlan}
-use Rattle.expr_rules.specs.declared.literals.Elements.{Elements}
-use Rattle.expr_rules.specs.declared.literals.EntryList.{EntryList}
-use Rattle.expr_rules.specs.declared.placed.Gives.{Gives}
 use Rattle.expr_rules.specs.declared.placed.Gives.TheVariants as gives
-use Rattle.expr_rules.specs.declared.placed.Judged.{Judged}
-use Rattle.expr_rules.specs.Asked.{Demand, plain, asked_by, inside}
-use Rattle.expr_rules.specs.Calls.{next_wish, argument_of, argument_found, arguments_found, no_arguments, param_wants, action_named, plan_of, callee_node, callee_code, call_stands, plan_found, call_found, context_code, context_stands, context_start, context_found, call_paths, items_of, typed_arguments}
-use Rattle.expr_rules.specs.Literals.{Pair, element_of, element_found, no_elements, sequence_items, sequence_given, sequence_of, sequence_found, known_first, entry_of, value_found, entry_found, key_wish, no_entries, dictionary_given, dictionary_items, dictionary_of, dictionary_found, element_wish, value_wish}
-use Rattle.expr_rules.specs.Names.{seen, outer_code, variable, root_of, name_found}
-use Rattle.expr_rules.specs.Operators.{Part}
-use Rattle.expr_rules.specs.Places.{is_global, known, group_of, astray_code, shape_of_expr}
-use Rattle.expr_rules.specs.Then.{and_then, through, codes_of}
-use Rattle.stmt_check.specs.Captures.{any_of}
+use Rattle.expr_rules.specs.Asked.{plain}
+use Rattle.expr_rules.specs.Calls.{call_stands, context_stands}
+use Rattle.expr_rules.specs.Literals.{element_of, sequence_of, entry_of, value_found, dictionary_of}
+use Rattle.expr_rules.specs.Places.{is_global, group_of}
+use Rattle.expr_rules.specs.Then.{and_then, through}
 use Rattle.stmt_check.specs.Captures.{Names as Naming, either as either_name}
 use Rattle.program_laws.proofs.Exprs.Sure.{Sure, sure_then, sure_sound, sure_node, sure_any}
 use Rattle.program_laws.proofs.Lawful.Mentioning.{node_said, entry_said, said, entry_made, row_grows, row_hits}

@@ -1,27 +1,14 @@
 -- What is named in the operands of an operator, and in the entries of a dictionary, is mentioned in its typed tree.
-use Rattle.std.proofs.Common.{◌≡◌, ℕ, Bool, true, false, List, [], ◌∷◌, ◌++◌, map, Some, sym, ◌⊎◌, inl, inr, if◌then◌else◌}
-use Rattle.span_text.specs.declared.spot.Spot.{Spot}
-use Rattle.epl_tree.specs.declared.expression.Comparison.{Comparison}
-use Rattle.epl_tree.specs.declared.expression.Operator.{Operator}
-use Rattle.typed_program.specs.declared.expression.TypedExpr.{TypedExpr, out-TypedExpr}
-use Rattle.typed_program.specs.declared.expression.TypedLink.{TypedLink, roll-TypedLink}
+use Rattle.program_laws.proofs.Common.{◌≡◌, ℕ, Bool, true, false, List, [], ◌∷◌, ◌++◌, map, Some, sym, ◌⊎◌, inl, inr, if◌then◌else◌, Spot, Comparison, Operator, TypedExpr, out-TypedExpr, TypedLink, roll-TypedLink, Mention, mentions, Seen, Sort, Logic, Level, Chain, LinkChain, Judged, Demand, operand, Part, Linked, sort_of_expr, truth, truths, addable, linked, not_found, minus_node, minus_found, comparison_found, join_found, with_operand, logic_node, chain_start, logic_found, with_link, link_found, level_node, links_start, links_found, any_of}
 use Rattle.typed_program.specs.declared.expression.TypedNode.TheVariants as made
 use Rattle.typed_program.specs.declared.expression.TypedNode.TheOpen as typed
-use Rattle.typed_program.specs.Mentions.{Mention, either, mentions}
+use Rattle.typed_program.specs.Mentions.{either}
 use Rattle.typed_program.specs.Mentions.{any_of as any_mention}
-use Rattle.type_table.specs.declared.scope.Seen.{Seen}
-use Rattle.expr_rules.specs.declared.operators.Sort.{Sort}
-use Rattle.expr_rules.specs.declared.operators.Logic.{Logic}
 use Rattle.expr_rules.specs.declared.operators.Logic.TheVariants as logic
-use Rattle.expr_rules.specs.declared.operators.Level.{Level}
 use Rattle.expr_rules.specs.declared.operators.Level.TheVariants as level
-use Rattle.expr_rules.specs.declared.operators.Chain.{Chain}
-use Rattle.expr_rules.specs.declared.operators.LinkChain.{LinkChain}
-use Rattle.expr_rules.specs.declared.placed.Judged.{Judged}
-use Rattle.expr_rules.specs.Asked.{Demand, operand, negated}
-use Rattle.expr_rules.specs.Operators.{Part, Linked, sort_of_expr, truth, number, truths, addable, linked, compared, paired, not_of, not_found, minus_node, minus_of, minus_found, comparison_of, comparison_right, comparison_found, joined, join_found, with_operand, logic_node, chain_of, chain_start, logic_rest, logic_found, with_link, link_of, link_found, level_node, links_of, links_start, links_rest, links_found}
+use Rattle.expr_rules.specs.Asked.{negated}
+use Rattle.expr_rules.specs.Operators.{number, compared, paired, not_of, minus_of, comparison_of, comparison_right, joined, chain_of, logic_rest, link_of, links_of, links_rest}
 use Rattle.expr_rules.specs.Then.{through}
-use Rattle.stmt_check.specs.Captures.{any_of}
 use Rattle.stmt_check.specs.Captures.{Names as Naming, either as either_name}
 use Rattle.program_laws.proofs.Exprs.Sure.{Sure, sure_then, sure_sound, sure_any}
 use Rattle.program_laws.proofs.Lawful.Mentioning.{node_said, link_said, said, said_out, link_made, row_grows, row_hits, second_grows}

@@ -1,43 +1,19 @@
 -- What is named in the steps behind a value, and in a place, is mentioned in the typed tree.
-use Rattle.std.proofs.Common.{◌≡◌, ℕ, ◌+◌, ◌-◌, Bool, true, false, ◌||◌, List, [], ◌∷◌, ◌++◌, map, length, Option, Some, None, refl, sym, ap, subst, ◌∙◌, true≢false, ◌⊎◌, inl, inr}
-use Rattle.std.specs.Str.{bytes_eq}
-use Rattle.std.proofs.lemmas.Bool.{or_cases}
-use Rattle.span_text.specs.declared.spot.Spot.{Spot}
-use Rattle.epl_values.specs.declared.shape.Shape.{Shape, Shape-F, out-Shape}
+use Rattle.program_laws.proofs.Common.{◌≡◌, ℕ, ◌+◌, ◌-◌, Bool, true, false, ◌||◌, List, [], ◌∷◌, ◌++◌, map, length, Option, Some, None, refl, sym, ap, subst, ◌∙◌, true≢false, ◌⊎◌, inl, inr, bytes_eq, or_cases, Spot, Shape, Shape-F, out-Shape, TypedExpr, out-TypedExpr, roll-TypedExpr, out-roll-TypedExpr, TypedNode, TypedSuffix, roll-TypedSuffix, TypedSuffixNode, Variable, Mention, mentions, all_mention, place_mentions, Scope, Seen, SeenKind, Table, Arguments, MethodCall, Reach, Judged, Root, Walk, Demand, arguments_found, is_change, called_of, method_reach, seen, variable, name_found, Part, known, shape_given, Step, method_kind, demand_before, walk_start, walked, reached, field_found, element_reach_layer, near, index_found, called_found, method_found, step_found, walk_found, postfix_found, variable_layer, variable_of, target_at, target_of, Target, any_of}
 use Rattle.epl_values.specs.declared.shape.Shape.TheOpen as layer
-use Rattle.typed_program.specs.declared.expression.TypedExpr.{TypedExpr, out-TypedExpr, roll-TypedExpr, out-roll-TypedExpr}
-use Rattle.typed_program.specs.declared.expression.TypedNode.{TypedNode}
 use Rattle.typed_program.specs.declared.expression.TypedNode.TheVariants as made
 use Rattle.typed_program.specs.declared.expression.TypedNode.TheOpen as typed
-use Rattle.typed_program.specs.declared.expression.TypedSuffix.{TypedSuffix, roll-TypedSuffix}
-use Rattle.typed_program.specs.declared.expression.TypedSuffixNode.{TypedSuffixNode}
 use Rattle.typed_program.specs.declared.expression.TypedSuffixNode.TheVariants as suffix
-use Rattle.typed_program.specs.declared.statement.Variable.{Variable}
-use Rattle.typed_program.specs.Mentions.{Mention, either, mentions, all_mention, variable_mentions, place_mentions}
+use Rattle.typed_program.specs.Mentions.{either, variable_mentions}
 use Rattle.typed_program.specs.Mentions.{any_of as any_mention}
-use Rattle.type_table.specs.declared.scope.Scope.{Scope}
-use Rattle.type_table.specs.declared.scope.Seen.{Seen}
-use Rattle.type_table.specs.declared.scope.SeenKind.{SeenKind}
 use Rattle.type_table.specs.declared.scope.SeenKind.TheVariants as kind
-use Rattle.type_table.specs.declared.table.Table.{Table}
-use Rattle.expr_rules.specs.declared.calls.Arguments.{Arguments}
-use Rattle.expr_rules.specs.declared.methods.MethodCall.{MethodCall}
-use Rattle.expr_rules.specs.declared.methods.Reach.{Reach}
-use Rattle.expr_rules.specs.declared.placed.Judged.{Judged}
-use Rattle.expr_rules.specs.declared.placed.Root.{Root}
 use Rattle.expr_rules.specs.declared.steps.StepKind.TheVariants as step
-use Rattle.expr_rules.specs.declared.steps.Walk.{Walk}
-use Rattle.expr_rules.specs.Asked.{Demand, plain, assigned}
-use Rattle.expr_rules.specs.Calls.{arguments_found}
-use Rattle.expr_rules.specs.Methods.{is_change, called_of, method_reach, method_named}
-use Rattle.expr_rules.specs.Names.{seen, variable, name_found}
-use Rattle.expr_rules.specs.Operators.{Part}
-use Rattle.expr_rules.specs.Places.{is_global, known, placed, shape_given}
-use Rattle.expr_rules.specs.Postfix.{Step, leads, method_kind, demand_before, walk_start, walked, reached, field_of, field_found, index_wish, element_reach_layer, element_reach, near, element_step, index_found, method_stands, called_found, method_found, step_found, postfix_of, walked_from, walk_found, postfix_rest, postfix_found}
+use Rattle.expr_rules.specs.Asked.{plain, assigned}
+use Rattle.expr_rules.specs.Methods.{method_named}
+use Rattle.expr_rules.specs.Places.{is_global, placed}
+use Rattle.expr_rules.specs.Postfix.{leads, field_of, index_wish, element_reach, element_step, method_stands, postfix_of, walked_from, postfix_rest}
 use Rattle.expr_rules.specs.Then.{and_then}
-use Rattle.expr_check.specs.Checks.{variable_layer, variable_of, target_at, target_of, target}
-use Rattle.expr_check.specs.declared.check.Target.{Target}
-use Rattle.stmt_check.specs.Captures.{any_of}
+use Rattle.expr_check.specs.Checks.{target}
 use Rattle.stmt_check.specs.Captures.{Names as Naming, either as either_name}
 use Rattle.program_laws.proofs.Exprs.Sure.{Sure, sure_then, sure_sound, sure_any}
 use Rattle.program_laws.proofs.Lawful.Mentioning.{node_said, step_said, suffix_said, said, stepped, said_made, suffix_made, row_grows, row_hits}

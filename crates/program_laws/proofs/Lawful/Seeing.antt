@@ -1,24 +1,8 @@
 -- Every expression keeps the rules, where the names that it names are seen: those of a whole are those of its parts.
-use Rattle.std.proofs.Common.{◌≡◌, ℕ, true, List, [], ◌∷◌, refl}
-use Rattle.std.specs.List.{AllByRecursion}
-use Rattle.std.specs.Str.{bytes_eq}
-use Rattle.std.proofs.lemmas.Slice.Eq.{bytes_eq-Decides}
-use Rattle.std.proofs.lemmas.Bool.{or_left, or_right}
-use Rattle.span_text.specs.declared.spot.Spot.{Spot}
-use Rattle.typed_program.specs.Paths.{Sight, Visible}
-use Rattle.type_table.specs.declared.scope.Scope.{Scope}
-use Rattle.type_table.specs.declared.table.Table.{Table}
-use Rattle.expr_rules.specs.declared.placed.Judged.{Judged}
-use Rattle.expr_rules.specs.Asked.{Demand, inside}
-use Rattle.expr_rules.specs.Literals.{Pair}
-use Rattle.expr_rules.specs.Names.{seen, name_found}
-use Rattle.expr_rules.specs.Operators.{Part, Linked}
-use Rattle.expr_rules.specs.Places.{group_of, astray_code}
-use Rattle.expr_rules.specs.Postfix.{Step}
-use Rattle.expr_rules.specs.Then.{and_then, codes_of}
-use Rattle.stmt_check.specs.Captures.{either, any_of}
+use Rattle.program_laws.proofs.Common.{◌≡◌, ℕ, true, List, [], ◌∷◌, refl, AllByRecursion, bytes_eq, bytes_eq-Decides, or_left, or_right, Spot, Sight, Visible, Scope, Table, Judged, Demand, inside, Pair, seen, name_found, Part, Linked, astray_code, Step, codes_of, either, any_of, SeesNamed, KeepsSpecial}
+use Rattle.expr_rules.specs.Places.{group_of}
+use Rattle.expr_rules.specs.Then.{and_then}
 use Rattle.stmt_check.specs.Captures.{Names as Naming}
-use Rattle.program_laws.specs.Sees.{SeesNamed, KeepsSpecial}
 use Rattle.program_laws.proofs.Exprs.Sure.{Sure, sure_then, sure_node}
 use Rattle.program_laws.proofs.Lawful.Calls.{call_kept, context_kept}
 use Rattle.program_laws.proofs.Lawful.Literals.{PairKept, integer_kept, text_kept, boolean_kept, current_kept, new_kept, sequence_kept, dictionary_kept}

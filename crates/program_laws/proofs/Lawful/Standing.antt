@@ -1,23 +1,12 @@
 -- What is known of a path at its place, where no fault is found there: what the place permits, that it is near where it is
 -- changed, and that it may be assigned where it is.
-use Rattle.std.proofs.Common.{◌≡◌, ℕ, Bool, true, false, ◌&&◌, ◌||◌, not, [], ◌∷◌, ◌++◌, Option, Some, None, nat_le, refl, sym, ap, subst, ◌∙◌, if◌then◌else◌}
-use Rattle.span_text.specs.declared.spot.Spot.{Spot}
-use Rattle.epl_values.specs.declared.shape.Shape.{Shape}
-use Rattle.typed_program.specs.declared.expression.TypedExpr.{out-TypedExpr, roll-TypedExpr}
-use Rattle.typed_program.specs.declared.expression.TypedNode.{TypedNode}
+use Rattle.program_laws.proofs.Common.{◌≡◌, ℕ, Bool, true, false, ◌&&◌, ◌||◌, not, [], ◌∷◌, ◌++◌, Option, Some, None, nat_le, refl, sym, ap, subst, ◌∙◌, if◌then◌else◌, Spot, Shape, out-TypedExpr, roll-TypedExpr, TypedNode, Sight, Path, is_reference_of, value, argument, path_of, Paths, Gives, Root, Judged, Demand, key_codes, misfit_codes, path_codes, given_codes, place_codes, change_code, astray_code, shape_given, judged, codes_of, SameRoot, permitted}
 use Rattle.typed_program.specs.Shapes.{is_reference}
-use Rattle.typed_program.specs.Paths.{Sight, Path, Root as Begins, is_reference_of, value, plain, argument, path_of}
-use Rattle.expr_rules.specs.declared.asked.Paths.{Paths}
+use Rattle.typed_program.specs.Paths.{Root as Begins, plain}
 use Rattle.expr_rules.specs.declared.asked.Paths.TheVariants as paths
-use Rattle.expr_rules.specs.declared.placed.Gives.{Gives}
 use Rattle.expr_rules.specs.declared.placed.Gives.TheVariants as gives
-use Rattle.expr_rules.specs.declared.placed.Root.{Root}
-use Rattle.expr_rules.specs.declared.placed.Judged.{Judged}
-use Rattle.expr_rules.specs.Asked.{Demand}
-use Rattle.expr_rules.specs.Places.{may_stand, key_codes, misfit_codes, path_codes, given_codes, place_codes, change_code, astray_code, shape_given, placed, judged}
+use Rattle.expr_rules.specs.Places.{may_stand, placed}
 use Rattle.expr_rules.specs.Places.{stands as placed_stands}
-use Rattle.expr_rules.specs.Then.{codes_of}
-use Rattle.program_laws.specs.Sees.{SameRoot, permitted}
 use Rattle.program_laws.proofs.Exprs.Sure.{Sure, own_none, sure_sound, sure_node, sure_then}
 use Rattle.program_laws.proofs.Lawful.Paths.{node_pathed, path_made, node_shape}
 use Rattle.program_laws.proofs.Shapes.Lists.{no_both}

@@ -1,35 +1,17 @@
 -- A field, an element and a method keep the rules behind a value: what is changed is near, and may be changed.
-use Rattle.std.proofs.Common.{◌≡◌, ℕ, ◌+◌, not, Bool, true, false, List, [], ◌∷◌, ◌++◌, map, length, min, nat_le, Option, Some, None, is_some, slice_get, refl, sym, ap, subst, ◌∙◌, true≢false, if◌then◌else◌, arith}
-use Rattle.std.proofs.lemmas.Bool.{and_parts, and_from, eqb-false, le-leb}
-use Rattle.std.proofs.lemmas.List.{length_push}
-use Rattle.span_text.specs.declared.spot.Spot.{Spot}
-use Rattle.epl_values.specs.declared.shape.Field.{Field}
-use Rattle.epl_values.specs.declared.shape.Shape.{Shape, Shape-F, out-Shape}
+use Rattle.program_laws.proofs.Common.{◌≡◌, ℕ, ◌+◌, not, Bool, true, false, List, [], ◌∷◌, ◌++◌, map, length, min, nat_le, Option, Some, None, is_some, slice_get, refl, sym, ap, subst, ◌∙◌, true≢false, if◌then◌else◌, arith, and_parts, and_from, le-leb, length_push, Spot, Field, Shape, Shape-F, out-Shape, Method, TypedExpr, TypedSuffix, roll-TypedSuffix, TypedSuffixNode, Sight, Going, may_change, goes, end_of, path_of, going_of, Table, Reach, Judged, Root, StepKind, Walk, Demand, fields_at, Part, change_code, Step, walked, reached, field_reach, field_found, element_reach_layer, near, is_far, nearer, index_found, SameRoot}
+use Rattle.std.proofs.lemmas.Bool.{eqb-false}
 use Rattle.epl_values.specs.declared.shape.Shape.TheOpen as layer
-use Rattle.typed_program.specs.declared.expression.Method.{Method}
 use Rattle.typed_program.specs.declared.expression.Method.TheVariants as method
-use Rattle.typed_program.specs.declared.expression.TypedExpr.{TypedExpr}
 use Rattle.typed_program.specs.declared.expression.TypedNode.TheOpen as typed
-use Rattle.typed_program.specs.declared.expression.TypedSuffix.{TypedSuffix, roll-TypedSuffix}
-use Rattle.typed_program.specs.declared.expression.TypedSuffixNode.{TypedSuffixNode}
 use Rattle.typed_program.specs.declared.expression.TypedSuffixNode.TheVariants as suffix
-use Rattle.typed_program.specs.Paths.{Sight, Going, plain, may_change, farther, going_field, going_index, goes, end_of, path_of, going_of}
+use Rattle.typed_program.specs.Paths.{plain, farther, going_field, going_index}
 use Rattle.typed_program.specs.Paths.{Root as Begins, changes as changing}
-use Rattle.type_table.specs.declared.table.Table.{Table}
-use Rattle.expr_rules.specs.declared.methods.Reach.{Reach}
-use Rattle.expr_rules.specs.declared.placed.Judged.{Judged}
-use Rattle.expr_rules.specs.declared.placed.Root.{Root}
-use Rattle.expr_rules.specs.declared.steps.StepKind.{StepKind}
 use Rattle.expr_rules.specs.declared.steps.StepKind.TheVariants as step
-use Rattle.expr_rules.specs.declared.steps.Walk.{Walk}
-use Rattle.expr_rules.specs.Asked.{Demand}
 use Rattle.expr_rules.specs.Asked.{plain as plainly}
-use Rattle.expr_rules.specs.Calls.{fields_at}
 use Rattle.expr_rules.specs.Methods.{changes}
-use Rattle.expr_rules.specs.Operators.{Part}
-use Rattle.expr_rules.specs.Places.{is_fixed, change_code, placed}
-use Rattle.expr_rules.specs.Postfix.{Step, walked, reached, field_reach, field_at, place_of, field_in, field_of, field_found, index_wish, element_reach_layer, element_reach, near, is_far, nearer, element_step, index_found}
-use Rattle.program_laws.specs.Sees.{SameRoot}
+use Rattle.expr_rules.specs.Places.{is_fixed, placed}
+use Rattle.expr_rules.specs.Postfix.{field_at, place_of, field_in, field_of, index_wish, element_reach, element_step}
 use Rattle.program_laws.proofs.Exprs.Sure.{Sure, sure_then, sure_sound, sure_node}
 use Rattle.program_laws.proofs.Lawful.Literals.{plain_asked}
 use Rattle.program_laws.proofs.Lawful.Operands.{PartKept}

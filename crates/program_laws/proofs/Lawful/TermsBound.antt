@@ -1,26 +1,11 @@
 -- The operands of an event expression are read in the scope around it, behind whose names stand those that it binds.
-use Rattle.std.proofs.Common.{◌≡◌, ℕ, Bool, true, false, not, List, [], ◌∷◌, ◌++◌, map, length, Option, Some, is_some, refl, sym, ap, subst, ◌∙◌, true≢false, append_assoc, if◌then◌else◌}
-use Rattle.std.specs.List.{AllByRecursion}
-use Rattle.std.proofs.lemmas.Bool.{and_parts, not-true}
-use Rattle.std.proofs.lemmas.List.{append-nil}
-use Rattle.epl_tree.specs.declared.expression.Expr.{Expr}
-use Rattle.epl_tree.specs.declared.event.EventExpr.{EventExpr, EventExpr-F, map-EventExpr, roll-EventExpr, fold-roll-EventExpr}
-use Rattle.epl_tree.specs.declared.event.EventNode.{EventNode, EventNode-F, map-EventNode, roll-EventNode, fold-EventNode, fold-roll-EventNode}
+use Rattle.program_laws.proofs.Common.{◌≡◌, ℕ, Bool, true, false, not, List, [], ◌∷◌, ◌++◌, map, length, Option, Some, is_some, refl, sym, ap, subst, ◌∙◌, true≢false, append_assoc, if◌then◌else◌, AllByRecursion, and_parts, not-true, append-nil, Expr, EventExpr, EventExpr-F, map-EventExpr, roll-EventExpr, fold-roll-EventExpr, EventNode, EventNode-F, map-EventNode, roll-EventNode, fold-EventNode, fold-roll-EventNode, ind-EventExpr, TemplateClause, Scope, Seen, Table, seen_of, Demand, seen, Part, typed_of, expr_found, seen_bound, clause_binds, clauses_bind, binds, inner_of, is_own}
 use Rattle.epl_tree.specs.declared.event.EventNode.TheOpen as node
-use Rattle.epl_tree.specs.declared.event.EventNode.TheFolds.{ind-EventExpr}
-use Rattle.epl_tree.specs.declared.event.TemplateClause.{TemplateClause}
 use Rattle.epl_tree.specs.declared.event.TemplateClause.TheVariants as clause
-use Rattle.type_table.specs.declared.scope.Scope.{Scope}
-use Rattle.type_table.specs.declared.scope.Seen.{Seen}
 use Rattle.type_table.specs.declared.scope.SeenKind.TheVariants as kind
-use Rattle.type_table.specs.declared.table.Table.{Table}
-use Rattle.type_table.specs.Table.{seen_of}
-use Rattle.expr_rules.specs.Asked.{Demand}
-use Rattle.expr_rules.specs.Names.{seen}
-use Rattle.expr_rules.specs.Operators.{Part}
 use Rattle.expr_rules.specs.Then.{and_then}
-use Rattle.expr_check.specs.Expressions.{part_of, typed_of, expr_found}
-use Rattle.listener_check.specs.Bound.{seen_bound, clause_binds, clauses_bind, each, node_step, expr_step, binds, inner_of, is_own}
+use Rattle.expr_check.specs.Expressions.{part_of}
+use Rattle.listener_check.specs.Bound.{each, node_step, expr_step}
 use Rattle.listener_check.specs.Names.{mentions}
 use Rattle.program_laws.proofs.Shapes.Lists.{all_at}
 use Rattle.program_laws.proofs.Terms.Apart.{Alike, apart}

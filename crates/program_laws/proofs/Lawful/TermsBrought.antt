@@ -1,22 +1,8 @@
 -- What a part of an event expression evaluates at the `on` is plain, and what the part names is mentioned there.
-use Rattle.std.proofs.Common.{◌≡◌, ℕ, Bool, true, false, ◌||◌, List, [], ◌∷◌, ◌++◌, refl, sym, ap, ◌∙◌, append_assoc}
-use Rattle.std.specs.List.{list_all}
-use Rattle.std.proofs.lemmas.Bool.{and_from, or_left, or_right}
-use Rattle.std.proofs.lemmas.List.Folds.{list_all-append}
-use Rattle.std.proofs.lemmas.List.{append-nil}
-use Rattle.epl_tree.specs.declared.expression.Expr.{Expr}
-use Rattle.typed_program.specs.declared.expression.TypedExpr.{TypedExpr}
-use Rattle.typed_program.specs.Mentions.{mentions, all_mention}
-use Rattle.typed_program.specs.Paths.{Sight, Visible, plain, path_of}
-use Rattle.type_table.specs.declared.scope.Scope.{Scope}
-use Rattle.type_table.specs.declared.table.Table.{Table}
+use Rattle.program_laws.proofs.Common.{◌≡◌, ℕ, Bool, true, false, ◌||◌, List, [], ◌∷◌, ◌++◌, refl, sym, ap, ◌∙◌, append_assoc, list_all, and_from, or_left, or_right, list_all-append, append-nil, Expr, TypedExpr, mentions, all_mention, Sight, Visible, path_of, Scope, Table, Demand, expr_found, Sofar, expr_names, either, SeesNamed, KeepsSpecial, permitted, Mentioned, is_barred}
+use Rattle.typed_program.specs.Paths.{plain}
 use Rattle.expr_rules.specs.declared.asked.Paths.TheVariants as paths
-use Rattle.expr_rules.specs.Asked.{Demand}
-use Rattle.expr_check.specs.Expressions.{expr_found}
-use Rattle.listener_check.specs.declared.sofar.Sofar.{Sofar}
-use Rattle.stmt_check.specs.Captures.{expr_names, either}
 use Rattle.stmt_check.specs.Captures.{Names as Naming}
-use Rattle.program_laws.specs.Sees.{SeesNamed, KeepsSpecial, permitted, Mentioned, is_barred}
 
 -- what is proved elsewhere of expressions
 pub record ExpressionLaws : Type 0 where

@@ -1,31 +1,19 @@
 -- Durations of an event expression: what is evaluated at the `on` is plain, and names no bound name.
-use Rattle.std.proofs.Common.{◌≡◌, ℕ, Bool, true, false, List, [], ◌∷◌, ◌++◌, Option, Some, None, refl, sym, ap, subst, ◌∙◌, true≢false, if◌then◌else◌}
+use Rattle.program_laws.proofs.Common.{◌≡◌, ℕ, Bool, true, false, List, [], ◌∷◌, ◌++◌, Option, Some, None, refl, sym, ap, subst, ◌∙◌, true≢false, if◌then◌else◌, and_from, Spot, Duration, DurationNode, Expr, TypedExpr, fold-roll-TypedExpr, TypedNode, fold-TypedNode, fold-roll-TypedNode, Sight, Path, Going, path_of, node_path, step_path, entry_path, expr_path, link_path, suffix_path, Scope, Table, expr_found, Sofar, is_own, decimal_by, tenths, tenths_of, duration_names}
 use Rattle.std.specs.Prelude.{pos}
-use Rattle.std.proofs.lemmas.Bool.{and_from}
-use Rattle.span_text.specs.declared.spot.Spot.{Spot}
 use Rattle.epl_values.specs.declared.shape.Shape.TheVariants as shape
-use Rattle.epl_tree.specs.declared.event.Duration.{Duration}
-use Rattle.epl_tree.specs.declared.event.DurationNode.{DurationNode}
 use Rattle.epl_tree.specs.declared.event.DurationNode.TheVariants as node
-use Rattle.epl_tree.specs.declared.expression.Expr.{Expr}
-use Rattle.typed_program.specs.declared.expression.TypedExpr.{TypedExpr, fold-roll-TypedExpr}
-use Rattle.typed_program.specs.declared.expression.TypedNode.{TypedNode, fold-TypedNode, fold-roll-TypedNode}
 use Rattle.typed_program.specs.declared.expression.TypedNode.TheVariants as made
 use Rattle.typed_program.specs.declared.expression.TypedNode.TheOpen as typed
-use Rattle.typed_program.specs.Paths.{Sight, Path, Node, Going, Pair, plain, path_of, node_path, step_path, entry_path, expr_path, link_path, suffix_path}
-use Rattle.type_table.specs.declared.scope.Scope.{Scope}
-use Rattle.type_table.specs.declared.table.Table.{Table}
-use Rattle.expr_check.specs.Expressions.{expr_found}
-use Rattle.listener_check.specs.declared.sofar.Sofar.{Sofar}
+use Rattle.typed_program.specs.Paths.{Node, Pair, plain}
 use Rattle.listener_check.specs.declared.value.Naming.TheVariants as naming
-use Rattle.listener_check.specs.Bound.{is_own}
-use Rattle.listener_check.specs.Durations.{digits_found, decimal_by, point_in, tenths, tenths_of, length_found, duration_read}
+use Rattle.listener_check.specs.Durations.{digits_found, point_in, length_found, duration_read}
 use Rattle.listener_check.specs.Limits.{sum_read}
 use Rattle.listener_check.specs.Names.{mentions}
 use Rattle.listener_check.specs.Operands.{placed}
 use Rattle.listener_check.specs.Values.{exactly, named_value}
 use Rattle.listener_check.specs.Went.{given, ◌>>=◌}
-use Rattle.stmt_check.specs.Captures.{duration_node, duration_names}
+use Rattle.stmt_check.specs.Captures.{duration_node}
 use Rattle.program_laws.proofs.Exprs.Sure.{Sure}
 use Rattle.program_laws.proofs.Terms.Astray.{astray_is_told}
 use Rattle.program_laws.proofs.Terms.Thus.{Thus, thus_went, thus_then, thus_given, thus_weaker}

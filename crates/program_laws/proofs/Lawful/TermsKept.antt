@@ -1,33 +1,15 @@
 -- Every part of an event expression without faults keeps the rules; what it evaluates at the `on` is plain, and mentions what it names.
-use Rattle.std.proofs.Common.{◌≡◌, ℕ, ◌+◌, Bool, true, false, ◌&&◌, not, ◌==◌, List, [], ◌∷◌, ◌++◌, drop, length, Option, Some, None, refl, sym, ap, subst, ◌∙◌, true≢false, arith}
-use Rattle.std.specs.List.{list_all}
-use Rattle.std.proofs.Math.Seq.{drop-append_seam}
-use Rattle.std.proofs.lemmas.Bool.{and_from, eq-eqb, not_from_false}
-use Rattle.span_text.specs.declared.spot.Spot.{Spot}
-use Rattle.epl_tree.specs.declared.event.Duration.{Duration}
-use Rattle.epl_tree.specs.declared.event.Template.{Template}
-use Rattle.epl_tree.specs.declared.event.EventExpr.{EventExpr, EventExpr-F, map-EventExpr, roll-EventExpr, fold-roll-EventExpr}
-use Rattle.epl_tree.specs.declared.event.EventNode.{EventNode, EventNode-F, map-EventNode, roll-EventNode, fold-EventNode, fold-roll-EventNode}
+use Rattle.program_laws.proofs.Common.{◌≡◌, ℕ, ◌+◌, Bool, true, false, ◌&&◌, not, ◌==◌, List, [], ◌∷◌, ◌++◌, drop, length, Option, Some, None, refl, sym, ap, subst, ◌∙◌, true≢false, arith, list_all, drop-append_seam, and_from, eq-eqb, not_from_false, Spot, Duration, Template, EventExpr, EventExpr-F, map-EventExpr, roll-EventExpr, fold-roll-EventExpr, EventNode, EventNode-F, map-EventNode, roll-EventNode, fold-EventNode, fold-roll-EventNode, ind-EventExpr, Term, Term-F, map-Term, roll-Term, Names, Sight, follow, all_plain, term_part, Scope, Table, told, Sofar, template_read, not_codes, each_behind, may_begin, went, event_names, event_node, event_step, duration_names, limit_names, template_names, either}
 use Rattle.epl_tree.specs.declared.event.EventNode.TheOpen as node
-use Rattle.epl_tree.specs.declared.event.EventNode.TheFolds.{ind-EventExpr}
-use Rattle.typed_program.specs.declared.term.Term.{Term, Term-F, map-Term, roll-Term}
 use Rattle.typed_program.specs.declared.term.Term.TheVariants as term
 use Rattle.typed_program.specs.declared.term.Term.TheOpen as layer
-use Rattle.typed_program.specs.Expressions.{Names}
-use Rattle.typed_program.specs.Paths.{Sight}
-use Rattle.typed_program.specs.TermRules.{follow, all_plain, joins, term_part}
+use Rattle.typed_program.specs.TermRules.{joins}
 use Rattle.typed_program.specs.TermRules.{Part as Ruled, plain as stands_plain}
-use Rattle.type_table.specs.declared.scope.Scope.{Scope}
-use Rattle.type_table.specs.declared.table.Table.{Table}
-use Rattle.type_table.specs.Found.{told}
-use Rattle.listener_check.specs.declared.sofar.Sofar.{Sofar}
 use Rattle.listener_check.specs.Durations.{duration_read}
 use Rattle.listener_check.specs.Limits.{leaf_read}
-use Rattle.listener_check.specs.Templates.{template_read}
-use Rattle.listener_check.specs.Terms.{Part, not_codes, each, each_behind, followed_behind, followed_read, joined_behind, or_read, xor_read, may_begin, and_read, not_read, all_read, deadline_read, plain, negated, wait_read, ended_read, group_read, leaf_template_read, node_step, expr_step}
+use Rattle.listener_check.specs.Terms.{Part, each, followed_behind, followed_read, joined_behind, or_read, xor_read, and_read, not_read, all_read, deadline_read, plain, negated, wait_read, ended_read, group_read, leaf_template_read, node_step, expr_step}
 use Rattle.listener_check.specs.Terms as reading
-use Rattle.listener_check.specs.Went.{went, ◌>>=◌}
-use Rattle.stmt_check.specs.Captures.{event_names, event_node, event_step, duration_names, limit_names, template_names, either}
+use Rattle.listener_check.specs.Went.{◌>>=◌}
 use Rattle.program_laws.proofs.Shapes.Lists.{no_told}
 use Rattle.program_laws.proofs.Terms.Counted.{duration_used}
 use Rattle.program_laws.proofs.Terms.CountsRead.{part_made}

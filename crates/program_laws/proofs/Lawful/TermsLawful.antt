@@ -1,29 +1,10 @@
 -- An event expression in which no fault is found keeps the rules, its operands are plain, and what it names they mention.
-use Rattle.std.proofs.Common.{◌≡◌, ℕ, ◌+◌, Bool, true, false, ◌&&◌, not, ◌==◌, nat_le, List, [], ◌∷◌, map, length, Some, None, is_some, slice_get, refl, sym, ap, subst, ◌∙◌, true≢false, arith}
+use Rattle.program_laws.proofs.Common.{◌≡◌, ℕ, ◌+◌, Bool, true, false, ◌&&◌, not, ◌==◌, nat_le, List, [], ◌∷◌, map, length, Some, None, is_some, slice_get, refl, sym, ap, subst, ◌∙◌, true≢false, arith, list_all, position, position_or_len, bytes_eq, and_from, and_parts, eq-eqb, le-leb, not_from_false, not-true, append-nil, EventExpr, TypedExpr, Names, all_mention, Sight, path_of, count_up, Scope, Seen, Table, seen_of, seen, item_at, Sofar, inner_of, term_found, term_read, nothing_yet, event_names, KnowsTable, KnowsNamed, SeesNamed, KeepsSpecial, Mentioned}
 use Rattle.std.specs.Prelude.{cond, nat_lt}
-use Rattle.std.specs.List.{list_all, position, position_or_len}
-use Rattle.std.specs.Str.{bytes_eq}
-use Rattle.std.proofs.lemmas.Bool.{and_from, and_parts, eq-eqb, le-leb, not_from_false, not-true}
-use Rattle.std.proofs.lemmas.List.{append-nil}
-use Rattle.epl_tree.specs.declared.event.EventExpr.{EventExpr}
-use Rattle.typed_program.specs.declared.expression.TypedExpr.{TypedExpr}
-use Rattle.typed_program.specs.Expressions.{Names}
-use Rattle.typed_program.specs.Mentions.{all_mention}
-use Rattle.typed_program.specs.Paths.{Sight, plain, path_of}
-use Rattle.typed_program.specs.TermRules.{part_of, count_up}
+use Rattle.typed_program.specs.Paths.{plain}
+use Rattle.typed_program.specs.TermRules.{part_of}
 use Rattle.typed_program.specs.TermRules.{plain as stands_plain}
-use Rattle.type_table.specs.declared.scope.Scope.{Scope}
-use Rattle.type_table.specs.declared.scope.Seen.{Seen}
-use Rattle.type_table.specs.declared.table.Table.{Table}
-use Rattle.type_table.specs.Table.{seen_of}
-use Rattle.expr_rules.specs.Names.{seen, item_at}
-use Rattle.listener_check.specs.declared.sofar.Sofar.{Sofar}
-use Rattle.listener_check.specs.Bound.{inner_of}
-use Rattle.listener_check.specs.Terms.{term_found, term_read, nothing_yet}
 use Rattle.listener_check.specs.Terms as reading
-use Rattle.stmt_check.specs.Captures.{event_names}
-use Rattle.program_laws.specs.Known.{KnowsTable, KnowsNamed}
-use Rattle.program_laws.specs.Sees.{SeesNamed, KeepsSpecial, Mentioned}
 use Rattle.program_laws.proofs.Terms.Bounds.{numbered_at, seen_behind}
 use Rattle.program_laws.proofs.Terms.CountsTerms.{term_counts}
 use Rattle.program_laws.proofs.Terms.Settling as settling

@@ -1,17 +1,8 @@
 -- What paths from bound names, and sums that begin with one, name in the text.
-use Rattle.std.proofs.Common.{◌≡◌, ℕ, Bool, true, false, ◌||◌, List, [], ◌∷◌, map, refl, sym, ap, ◌∙◌, true≢false}
-use Rattle.std.specs.List.{list_all}
-use Rattle.std.proofs.lemmas.Bool.{and_parts}
-use Rattle.std.proofs.lemmas.Slice.Eq.{bytes_eq-Decides}
-use Rattle.epl_tree.specs.declared.expression.Entry.{Entry}
-use Rattle.epl_tree.specs.declared.expression.Expr.{Expr}
-use Rattle.epl_tree.specs.declared.expression.ExprNode.{ExprNode, ExprNode-F, map-ExprNode, fold-ExprNode}
+use Rattle.program_laws.proofs.Common.{◌≡◌, ℕ, Bool, true, false, ◌||◌, List, [], ◌∷◌, map, refl, sym, ap, ◌∙◌, true≢false, list_all, and_parts, bytes_eq-Decides, Entry, Expr, ExprNode, ExprNode-F, map-ExprNode, fold-ExprNode, Link, out-Link, fold_out-Link, Suffix, out-Suffix, fold_out-Suffix, SuffixNode, SuffixNode-F, map-SuffixNode, fold-SuffixNode, out-SuffixNode, fold_out-SuffixNode, Layer, layer_of, is_field_layer, expr_names, expr_node, suffix_names, link_names, entry_names, any_of}
 use Rattle.epl_tree.specs.declared.expression.ExprNode.TheOpen as node
-use Rattle.epl_tree.specs.declared.expression.Link.{Link, out-Link, fold_out-Link}
-use Rattle.epl_tree.specs.declared.expression.Suffix.{Suffix, out-Suffix, fold_out-Suffix}
-use Rattle.epl_tree.specs.declared.expression.SuffixNode.{SuffixNode, SuffixNode-F, map-SuffixNode, fold-SuffixNode, out-SuffixNode, fold_out-SuffixNode}
-use Rattle.listener_check.specs.Values.{Layer, layer_of, is_field, is_field_layer}
-use Rattle.stmt_check.specs.Captures.{expr_names, expr_node, suffix_node, entry_step, expr_step, link_step, suffix_step, suffix_names, link_names, entry_names, any_of}
+use Rattle.listener_check.specs.Values.{is_field}
+use Rattle.stmt_check.specs.Captures.{suffix_node, entry_step, expr_step, link_step, suffix_step}
 use Rattle.stmt_check.specs.Captures.{Names as Naming}
 use Rattle.program_laws.proofs.Lawful.TermsBrought.{or_case}
 use Rattle.program_laws.proofs.Terms.Sums.{names_at}

@@ -1,20 +1,8 @@
 -- The names that a part of an event expression binds: none of them was bound in front, and none at all under a `not`.
-use Rattle.std.proofs.Common.{◌≡◌, ℕ, Bool, true, false, ◌||◌, List, [], ◌∷◌, ◌++◌, length, Option, refl, sym, ap, ◌∙◌, true≢false, append_assoc, if◌then◌else◌}
+use Rattle.program_laws.proofs.Common.{◌≡◌, ℕ, Bool, true, false, ◌||◌, List, [], ◌∷◌, ◌++◌, length, Option, refl, sym, ap, ◌∙◌, true≢false, append_assoc, if◌then◌else◌, bytes_eq, list_any-append, bytes_eq-Decides, or_parts, append-nil, Name, Scope, told, seen_of, Sofar, is_among, is_taken, is_full, name_codes, with_name, Went, went}
 use Rattle.std.specs.Prelude.{is_some}
-use Rattle.std.specs.Str.{bytes_eq}
-use Rattle.std.proofs.lemmas.List.Folds.{list_any-append}
-use Rattle.std.proofs.lemmas.Slice.Eq.{bytes_eq-Decides}
-use Rattle.std.proofs.lemmas.Bool.{or_parts}
-use Rattle.std.proofs.lemmas.List.{append-nil}
-use Rattle.epl_tree.specs.declared.name.Name.{Name}
-use Rattle.type_table.specs.declared.scope.Scope.{Scope}
-use Rattle.type_table.specs.Found.{told}
-use Rattle.type_table.specs.Table.{seen_of}
-use Rattle.listener_check.specs.declared.sofar.Sofar.{Sofar}
-use Rattle.listener_check.specs.Bound.{is_among}
 use Rattle.listener_check.specs.Limits.{short}
-use Rattle.listener_check.specs.Templates.{is_taken, is_full, name_codes, name_read, with_name}
-use Rattle.listener_check.specs.Went.{Went, went}
+use Rattle.listener_check.specs.Templates.{name_read}
 use Rattle.program_laws.proofs.Shapes.Lists.{no_both, no_told, no_if}
 use Rattle.program_laws.proofs.Terms.Thus.{Thus, thus_went, thus_behind}
 use Rattle.program_laws.proofs.Lawful.TermsBrought.{or_case}

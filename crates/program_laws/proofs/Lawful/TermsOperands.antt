@@ -1,44 +1,18 @@
 -- Operands of constraints, and durations: what is evaluated at the `on` is plain, and a bound name that is named is one of a left side.
-use Rattle.std.proofs.Common.{◌≡◌, ℕ, Bool, true, false, ◌&&◌, ◌||◌, not, List, [], ◌∷◌, ◌++◌, length, refl, sym, ap, subst, ◌∙◌, true≢false, if◌then◌else◌}
-use Rattle.std.specs.List.{list_all}
-use Rattle.std.proofs.lemmas.Bool.{and_parts, and_from, not-true}
-use Rattle.span_text.specs.declared.spot.Spot.{Spot}
-use Rattle.epl_values.specs.declared.shape.Shape.{Shape}
-use Rattle.epl_tree.specs.declared.expression.Expr.{Expr, out-Expr}
+use Rattle.program_laws.proofs.Common.{◌≡◌, ℕ, Bool, true, false, ◌&&◌, ◌||◌, not, List, [], ◌∷◌, ◌++◌, length, refl, sym, ap, subst, ◌∙◌, true≢false, if◌then◌else◌, list_all, and_parts, and_from, not-true, Spot, Shape, Expr, out-Expr, Link, out-Link, Operator, Suffix, TypedExpr, TypedLink, out-TypedLink, roll-TypedLink, out-roll-TypedLink, Operand, all_mention, Sight, named_in, Scope, Table, Found, Judged, Demand, seen, typed_of, expr_found, Reached, Sofar, Naming, is_own, with_sum, bound, sum_layer, Layer, layer_of, is_path_of, sign_naming, links_naming, form_layer, naming_of, Went, went, expr_names, Mentioned, is_barred}
 use Rattle.epl_tree.specs.declared.expression.ExprNode.TheOpen as node
-use Rattle.epl_tree.specs.declared.expression.Link.{Link, out-Link}
-use Rattle.epl_tree.specs.declared.expression.Operator.{Operator}
 use Rattle.epl_tree.specs.declared.expression.Operator.TheVariants as operator
-use Rattle.epl_tree.specs.declared.expression.Suffix.{Suffix}
-use Rattle.typed_program.specs.declared.expression.TypedExpr.{TypedExpr}
-use Rattle.typed_program.specs.declared.expression.TypedLink.{TypedLink, out-TypedLink, roll-TypedLink, out-roll-TypedLink}
-use Rattle.typed_program.specs.declared.term.Operand.{Operand}
 use Rattle.typed_program.specs.declared.term.Operand.TheVariants as operand
-use Rattle.typed_program.specs.Mentions.{all_mention}
-use Rattle.typed_program.specs.Paths.{Sight}
-use Rattle.typed_program.specs.TermRules.{named_in}
-use Rattle.type_table.specs.declared.scope.Scope.{Scope}
-use Rattle.type_table.specs.declared.table.Table.{Table}
-use Rattle.type_table.specs.Found.{Found}
-use Rattle.expr_rules.specs.declared.placed.Judged.{Judged}
-use Rattle.expr_rules.specs.Asked.{Demand}
 use Rattle.expr_rules.specs.Asked.{operand as operand_demand}
-use Rattle.expr_rules.specs.Names.{seen}
 use Rattle.expr_rules.specs.Then.{and_then}
-use Rattle.expr_check.specs.Expressions.{part_of, typed_of, expr_found}
-use Rattle.listener_check.specs.declared.operand.Reached.{Reached}
-use Rattle.listener_check.specs.declared.sofar.Sofar.{Sofar}
-use Rattle.listener_check.specs.declared.value.Naming.{Naming}
+use Rattle.expr_check.specs.Expressions.{part_of}
 use Rattle.listener_check.specs.declared.value.Naming.TheVariants as naming
-use Rattle.listener_check.specs.Bound.{is_own}
-use Rattle.listener_check.specs.Limits.{short, sum_read, with_sum}
+use Rattle.listener_check.specs.Limits.{short, sum_read}
 use Rattle.listener_check.specs.Names.{mentions}
-use Rattle.listener_check.specs.Operands.{path_in, placed, bound, signed, added_operand, sum_layer, sum_operand, given_operand, operand_of, named_operand, operand_read, is_integer}
+use Rattle.listener_check.specs.Operands.{path_in, placed, signed, added_operand, sum_operand, given_operand, operand_of, named_operand, operand_read, is_integer}
 use Rattle.listener_check.specs.Operands as reading
-use Rattle.listener_check.specs.Values.{Layer, layer_of, is_field, is_root, is_path, is_path_of, sign_naming, links_naming, form_layer, form_of, naming_of, exactly, named_value}
-use Rattle.listener_check.specs.Went.{Went, went, given}
-use Rattle.stmt_check.specs.Captures.{expr_names}
-use Rattle.program_laws.specs.Sees.{Mentioned, is_barred}
+use Rattle.listener_check.specs.Values.{is_field, is_root, is_path, form_of, exactly, named_value}
+use Rattle.listener_check.specs.Went.{given}
 use Rattle.program_laws.proofs.Exprs.Sure.{Sure, sure_then, sure_sound}
 use Rattle.program_laws.proofs.Terms.Astray.{astray_is_told}
 use Rattle.program_laws.proofs.Terms.Thus.{Thus, thus_went, thus_then, thus_behind, thus_given, thus_weaker}

@@ -1,20 +1,9 @@
 -- Parts of an event expression in a row: each keeps the rules, and those of a right side of `->` behind what stands left of them.
-use Rattle.std.proofs.Common.{◌≡◌, ℕ, ◌≤◌, Bool, true, false, not, List, [], ◌∷◌, ◌++◌, map, drop, length, refl, sym, ap, ◌∙◌, true≢false, arith, append_assoc}
-use Rattle.std.specs.List.{list_all}
-use Rattle.std.proofs.lemmas.Bool.{and_from, not_from_false}
-use Rattle.epl_tree.specs.declared.event.EventExpr.{EventExpr}
-use Rattle.typed_program.specs.declared.term.Term.{Term}
-use Rattle.typed_program.specs.Expressions.{Names}
-use Rattle.typed_program.specs.Paths.{Sight}
-use Rattle.typed_program.specs.TermRules.{follow, all_plain}
+use Rattle.program_laws.proofs.Common.{◌≡◌, ℕ, ◌≤◌, Bool, true, false, not, List, [], ◌∷◌, ◌++◌, map, drop, length, refl, sym, ap, ◌∙◌, true≢false, arith, append_assoc, list_all, and_from, not_from_false, EventExpr, Term, Names, Sight, follow, all_plain, Scope, Table, Sofar, each_step, behind_step, each_behind, Went, went, event_names, any_of}
 use Rattle.typed_program.specs.TermRules.{Part as Ruled, plain as stands_plain}
-use Rattle.type_table.specs.declared.scope.Scope.{Scope}
-use Rattle.type_table.specs.declared.table.Table.{Table}
-use Rattle.listener_check.specs.declared.sofar.Sofar.{Sofar}
-use Rattle.listener_check.specs.Terms.{Part, each_step, each, behind_step, each_behind}
+use Rattle.listener_check.specs.Terms.{Part, each}
 use Rattle.listener_check.specs.Terms as reading
-use Rattle.listener_check.specs.Went.{Went, went, through}
-use Rattle.stmt_check.specs.Captures.{event_names, any_of}
+use Rattle.listener_check.specs.Went.{through}
 use Rattle.program_laws.proofs.Terms.CountsRead.{CountsTerm, ruled}
 use Rattle.program_laws.proofs.Terms.CountsTerms.{expr_counts}
 use Rattle.program_laws.proofs.Terms.Thus.{Thus, thus_went, thus_then, thus_weaker}

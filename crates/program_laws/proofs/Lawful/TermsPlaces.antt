@@ -1,22 +1,8 @@
 -- A right side of `->` may name what its left sides bind: the places of names bound there are those that its operands have.
-use Rattle.std.proofs.Common.{◌≡◌, ℕ, suc, ◌+◌, ◌<◌, ◌≤◌, Bool, true, false, ◌||◌, ◌==◌, List, [], ◌∷◌, ◌++◌, drop, length, Some, refl, sym, ap, subst, ◌∙◌, true≢false, arith, append_assoc}
+use Rattle.program_laws.proofs.Common.{◌≡◌, ℕ, suc, ◌+◌, ◌<◌, ◌≤◌, Bool, true, false, ◌||◌, ◌==◌, List, [], ◌∷◌, ◌++◌, drop, length, Some, refl, sym, ap, subst, ◌∙◌, true≢false, arith, append_assoc, list_any, position_or_len, bytes_eq, and_parts, or_left, or_right, nat_tests, list_any-append, Names, count_up, Scope, Seen, Table, seen, Sofar, is_own, is_among, KnowsTable}
 use Rattle.std.specs.Prelude.{cond}
-use Rattle.std.specs.List.{list_any, position_or_len}
-use Rattle.std.specs.Str.{bytes_eq}
-use Rattle.std.proofs.lemmas.Bool.{and_parts, or_left, or_right}
-use Rattle.std.proofs.lemmas.Bool.Decides.{nat_tests}
 use Rattle.std.proofs.lemmas.List.{drop-append-le}
-use Rattle.std.proofs.lemmas.List.Folds.{list_any-append}
 use Rattle.std.proofs.lemmas.List.Recursion.{is_position_or_len}
-use Rattle.typed_program.specs.Expressions.{Names}
-use Rattle.typed_program.specs.TermRules.{count_up}
-use Rattle.type_table.specs.declared.scope.Scope.{Scope}
-use Rattle.type_table.specs.declared.scope.Seen.{Seen}
-use Rattle.type_table.specs.declared.table.Table.{Table}
-use Rattle.expr_rules.specs.Names.{seen}
-use Rattle.listener_check.specs.declared.sofar.Sofar.{Sofar}
-use Rattle.listener_check.specs.Bound.{is_own, is_among}
-use Rattle.program_laws.specs.Known.{KnowsTable}
 use Rattle.program_laws.proofs.Lawful.TermsBound.{Widened}
 use Rattle.program_laws.proofs.Lawful.TermsBrought.{or_case}
 use Rattle.program_laws.proofs.Lawful.TermsNewly.{Newly, among_append}

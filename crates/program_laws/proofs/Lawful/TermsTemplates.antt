@@ -1,46 +1,19 @@
 -- A template without faults keeps the rules; what it evaluates at the `on` is plain, and mentions what it names.
-use Rattle.std.proofs.Common.{◌≡◌, ℕ, Bool, true, ◌&&◌, ◌||◌, List, [], ◌∷◌, ◌++◌, map, length, Option, Some, None, slice_get, refl, sym, ap, subst, ◌∙◌, true≢false, arith}
-use Rattle.std.specs.List.{list_all, flat_map}
-use Rattle.std.proofs.lemmas.Bool.{and_from}
-use Rattle.std.proofs.lemmas.Grind.{flat_map-append}
-use Rattle.std.proofs.lemmas.List.Folds.{list_all-append}
-use Rattle.span_text.specs.declared.spot.Spot.{Spot}
-use Rattle.epl_values.specs.declared.shape.EventShape.{EventShape}
-use Rattle.epl_values.specs.declared.shape.Field.{Field}
-use Rattle.epl_values.specs.declared.shape.Shape.{Shape}
-use Rattle.epl_tree.specs.declared.event.Constraint.{Constraint}
-use Rattle.epl_tree.specs.declared.event.ConstraintNode.{ConstraintNode}
+use Rattle.program_laws.proofs.Common.{◌≡◌, ℕ, Bool, true, ◌&&◌, ◌||◌, List, [], ◌∷◌, ◌++◌, map, length, Option, Some, None, slice_get, refl, sym, ap, subst, ◌∙◌, true≢false, arith, list_all, flat_map, and_from, flat_map-append, list_all-append, Spot, EventShape, Field, Shape, Constraint, ConstraintNode, Range, Template, TemplateClause, Comparison, Expr, Operand, TemplateShape, Names, Sight, named_in, operands_in, constraint_lawful, asked_fields, differ, Scope, Table, told, event_of, Done, Sofar, Clauses, is_named, number_of, missing_code, field_codes, none_done, lies, missing_read, found_read, numbered_read, constraint_read, constraint_step, constraints_read, leaf_codes, with_leaf, fields_of, no_clauses, clauses_read, template_of, template_read, went, expr_names, range_names, constraint_names, clause_names, template_names, any_of, KnowsTable}
 use Rattle.epl_tree.specs.declared.event.ConstraintNode.TheVariants as node
-use Rattle.epl_tree.specs.declared.event.Range.{Range}
-use Rattle.epl_tree.specs.declared.event.Template.{Template}
-use Rattle.epl_tree.specs.declared.event.TemplateClause.{TemplateClause}
 use Rattle.epl_tree.specs.declared.event.TemplateClause.TheVariants as clause
-use Rattle.epl_tree.specs.declared.expression.Comparison.{Comparison}
 use Rattle.epl_tree.specs.declared.expression.Comparison.TheVariants as comparison
-use Rattle.epl_tree.specs.declared.expression.Expr.{Expr}
 use Rattle.typed_program.specs.declared.term.Constraint.{Constraint as Typed}
 use Rattle.typed_program.specs.declared.term.ConstraintNode.{ConstraintNode as TypedNode}
 use Rattle.typed_program.specs.declared.term.ConstraintNode.TheVariants as made
-use Rattle.typed_program.specs.declared.term.Operand.{Operand}
-use Rattle.typed_program.specs.declared.term.TemplateShape.{TemplateShape}
-use Rattle.typed_program.specs.Expressions.{Names}
-use Rattle.typed_program.specs.Paths.{Sight}
-use Rattle.typed_program.specs.TermRules.{named_in, operands_in, constraint_lawful, asked_fields, differ, template_lawful, names_left}
-use Rattle.type_table.specs.declared.scope.Scope.{Scope}
-use Rattle.type_table.specs.declared.table.Table.{Table}
-use Rattle.type_table.specs.Found.{told}
-use Rattle.type_table.specs.Table.{event_of}
-use Rattle.listener_check.specs.declared.constraint.Done.{Done}
-use Rattle.listener_check.specs.declared.sofar.Sofar.{Sofar}
-use Rattle.listener_check.specs.declared.template.Clauses.{Clauses}
-use Rattle.listener_check.specs.Constraints.{is_named, number_of, missing_code, field_codes, none_done, compares_read, lies, lies_read, asked_read, placed_read, missing_read, found_read, numbered_read, constraint_read, constraint_step, constraints_read}
+use Rattle.typed_program.specs.TermRules.{template_lawful, names_left}
+use Rattle.listener_check.specs.Constraints.{compares_read, lies_read, asked_read, placed_read}
 use Rattle.listener_check.specs.Durations.{duration_read}
-use Rattle.listener_check.specs.Limits.{short, leaf_read, leaf_codes, with_leaf}
+use Rattle.listener_check.specs.Limits.{short, leaf_read}
 use Rattle.listener_check.specs.Operands.{operand_read}
-use Rattle.listener_check.specs.Templates.{fields_of, name_read, no_clauses, clause_read, clauses_read, template_of, parts_read, typed_read, template_read}
-use Rattle.listener_check.specs.Went.{went, through, ◌>>=◌}
-use Rattle.stmt_check.specs.Captures.{expr_names, range_names, constraint_node, constraint_names, clause_names, template_names, any_of}
-use Rattle.program_laws.specs.Known.{KnowsTable}
+use Rattle.listener_check.specs.Templates.{name_read, clause_read, parts_read, typed_read}
+use Rattle.listener_check.specs.Went.{through, ◌>>=◌}
+use Rattle.stmt_check.specs.Captures.{constraint_node}
 use Rattle.program_laws.proofs.Exprs.Calls.{event_numbered}
 use Rattle.program_laws.proofs.Shapes.Lists.{slice_some, no_told}
 use Rattle.program_laws.proofs.Terms.ConstraintRules.{Keep, constraints_keep_rules}

@@ -1,43 +1,20 @@
 -- An expression that names bound names is a path from one of them, to which a value that names none may be added.
-use Rattle.std.proofs.Common.{◌≡◌, ℕ, Bool, true, false, ◌==◌, List, [], ◌∷◌, ◌++◌, map, length, Option, Some, None, refl, sym, ap, subst, ◌∙◌, true≢false}
-use Rattle.std.specs.List.{AllByRecursion, list_all, list_any}
-use Rattle.std.proofs.lemmas.Bool.{and_parts}
-use Rattle.span_text.specs.declared.spot.Spot.{Spot}
-use Rattle.epl_tree.specs.declared.expression.Expr.{Expr, out-Expr}
+use Rattle.program_laws.proofs.Common.{◌≡◌, ℕ, Bool, true, false, ◌==◌, List, [], ◌∷◌, ◌++◌, map, length, Option, Some, None, refl, sym, ap, subst, ◌∙◌, true≢false, AllByRecursion, list_all, list_any, and_parts, Spot, Expr, out-Expr, Link, out-Link, fold_out-Link, Operator, Suffix, Shape, TypedExpr, roll-TypedExpr, out-roll-TypedExpr, out-TypedNode, TypedLink, roll-TypedLink, Scope, Seen, SeenKind, Table, LinkChain, Sort, Judged, Walk, Demand, Pair, seen, name_found, variable, Part, Linked, sort_of_expr, addable, given_by, linked, operated, links_start, links_found, link_found, with_link, judged, shape_given, known, Step, walked, field_found, demand_before, walk_start, step_found, postfix_found, Node, StepNode, node_step, suffix_node_step, entry_step, expr_step, link_step, suffix_step, link_part, is_own, is_among, place_layer, path_layer, Layer, layer_of, is_root_layer, is_path_of, is_path_layer}
 use Rattle.epl_tree.specs.declared.expression.ExprNode.TheOpen as node
-use Rattle.epl_tree.specs.declared.expression.Link.{Link, out-Link, fold_out-Link}
-use Rattle.epl_tree.specs.declared.expression.Operator.{Operator}
-use Rattle.epl_tree.specs.declared.expression.Suffix.{Suffix}
-use Rattle.epl_values.specs.declared.shape.Shape.{Shape}
-use Rattle.typed_program.specs.declared.expression.TypedExpr.{TypedExpr, roll-TypedExpr, out-roll-TypedExpr}
-use Rattle.typed_program.specs.declared.expression.TypedNode.{out-TypedNode}
 use Rattle.typed_program.specs.declared.expression.TypedNode.TheVariants as made
 use Rattle.typed_program.specs.declared.expression.TypedNode.TheOpen as typed
-use Rattle.typed_program.specs.declared.expression.TypedLink.{TypedLink, roll-TypedLink}
-use Rattle.type_table.specs.declared.scope.Scope.{Scope}
-use Rattle.type_table.specs.declared.scope.Seen.{Seen}
-use Rattle.type_table.specs.declared.scope.SeenKind.{SeenKind}
 use Rattle.type_table.specs.declared.scope.SeenKind.TheVariants as kind
-use Rattle.type_table.specs.declared.table.Table.{Table}
 use Rattle.expr_rules.specs.declared.operators.Level.TheVariants as level
-use Rattle.expr_rules.specs.declared.operators.LinkChain.{LinkChain}
-use Rattle.expr_rules.specs.declared.operators.Sort.{Sort}
 use Rattle.expr_rules.specs.declared.placed.Gives.TheVariants as gives
-use Rattle.expr_rules.specs.declared.placed.Judged.{Judged}
-use Rattle.expr_rules.specs.declared.steps.Walk.{Walk}
-use Rattle.expr_rules.specs.Asked.{Demand}
 use Rattle.expr_rules.specs.Asked.{operand as operand_demand}
-use Rattle.expr_rules.specs.Literals.{Pair}
-use Rattle.expr_rules.specs.Names.{seen, name_found, variable}
-use Rattle.expr_rules.specs.Operators.{Part, Linked, sort_of_expr, addable, given_by, linked, operated, paired, links_of, links_start, links_rest, links_found, link_of, link_found, with_link}
-use Rattle.expr_rules.specs.Places.{placed, judged, shape_given, known}
-use Rattle.expr_rules.specs.Postfix.{Step, walked, field_of, field_found, demand_before, walk_start, step_found, postfix_of, walked_from, postfix_rest, postfix_found, leads}
+use Rattle.expr_rules.specs.Operators.{paired, links_of, links_rest, link_of}
+use Rattle.expr_rules.specs.Places.{placed}
+use Rattle.expr_rules.specs.Postfix.{field_of, postfix_of, walked_from, postfix_rest, leads}
 use Rattle.expr_rules.specs.Then.{and_then, through}
-use Rattle.expr_check.specs.Expressions.{Node, StepNode, node_step, suffix_node_step, entry_step, expr_step, link_step, suffix_step, part_of, link_part, step_of}
-use Rattle.listener_check.specs.Bound.{is_own, is_among}
-use Rattle.listener_check.specs.Operands.{place_of, place_layer, path_in, path_layer}
+use Rattle.expr_check.specs.Expressions.{part_of, step_of}
+use Rattle.listener_check.specs.Operands.{place_of, path_in}
 use Rattle.listener_check.specs.Operands as reading
-use Rattle.listener_check.specs.Values.{Layer, layer_of, is_field, is_root, is_root_layer, is_path, is_path_of, is_path_layer}
+use Rattle.listener_check.specs.Values.{is_field, is_root, is_path}
 use Rattle.program_laws.proofs.Exprs.Sure.{Sure, sure_then, sure_sound, sure_any}
 use Rattle.program_laws.proofs.Terms.Paths.{part_at, is_field_step, field_step}
 use Rattle.program_laws.proofs.Lawful.TermsBound.{Widened, own_is}

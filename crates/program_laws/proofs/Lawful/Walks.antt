@@ -1,25 +1,11 @@
 -- A value with steps behind it keeps the rules, and so does a place that is assigned: what is changed is told to each step
 -- before the change.
-use Rattle.std.proofs.Common.{◌≡◌, ℕ, zero, suc, ◌+◌, ◌-◌, ◌&&◌, Bool, true, false, List, [], ◌∷◌, map, length, Option, Some, None, is_some, refl, sym, ap, subst, ◌∙◌, arith}
-use Rattle.std.specs.List.{AllByRecursion}
-use Rattle.std.proofs.lemmas.Bool.{and_from}
-use Rattle.span_text.specs.declared.spot.Spot.{Spot}
-use Rattle.epl_values.specs.declared.shape.Shape.{Shape}
-use Rattle.typed_program.specs.declared.expression.TypedExpr.{TypedExpr, roll-TypedExpr}
+use Rattle.program_laws.proofs.Common.{◌≡◌, ℕ, zero, suc, ◌+◌, ◌-◌, ◌&&◌, Bool, true, false, List, [], ◌∷◌, map, length, Option, Some, None, is_some, refl, sym, ap, subst, ◌∙◌, arith, AllByRecursion, and_from, Spot, Shape, TypedExpr, roll-TypedExpr, TypedSuffix, Sight, Path, goes, end_of, path_of, Judged, Root, StepKind, Walk, Demand, Part, Step, demand_before, walk_start, step_found, postfix_found, SameRoot}
 use Rattle.typed_program.specs.declared.expression.TypedNode.TheVariants as made
 use Rattle.typed_program.specs.declared.expression.TypedNode.TheOpen as typed
-use Rattle.typed_program.specs.declared.expression.TypedSuffix.{TypedSuffix}
-use Rattle.typed_program.specs.Paths.{Sight, Path, goes, end_of, path_of}
 use Rattle.typed_program.specs.Paths.{Root as Begins}
-use Rattle.expr_rules.specs.declared.placed.Judged.{Judged}
-use Rattle.expr_rules.specs.declared.placed.Root.{Root}
-use Rattle.expr_rules.specs.declared.steps.StepKind.{StepKind}
-use Rattle.expr_rules.specs.declared.steps.Walk.{Walk}
-use Rattle.expr_rules.specs.Asked.{Demand}
-use Rattle.expr_rules.specs.Operators.{Part}
-use Rattle.expr_rules.specs.Postfix.{Step, leads, demand_before, walk_start, step_found, postfix_of, walked_from, postfix_rest, postfix_found}
+use Rattle.expr_rules.specs.Postfix.{leads, postfix_of, walked_from, postfix_rest}
 use Rattle.expr_rules.specs.Then.{through}
-use Rattle.program_laws.specs.Sees.{SameRoot}
 use Rattle.program_laws.proofs.Exprs.Sure.{Sure, sure_then, sure_sound}
 use Rattle.program_laws.proofs.Lawful.Operands.{PartKept}
 use Rattle.program_laws.proofs.Lawful.Paths.{node_pathed, pathed, path_shape}

@@ -1,22 +1,11 @@
 -- An event type that stands in the shape of a field is met by its name in the type that is written for it.
-use Rattle.std.proofs.Common.{◌≡◌, ℕ, min, List, [], ◌∷◌, ◌++◌, Some, None, Bool, true, ◌||◌, Option, refl, ap, sym, subst, ◌∙◌, inl, inr}
+use Rattle.program_laws.proofs.Common.{◌≡◌, ℕ, min, List, [], ◌∷◌, ◌++◌, Some, None, Bool, true, ◌||◌, Option, refl, ap, sym, subst, ◌∙◌, inl, inr, or_left, or_right, Spot, Shape, fold-roll-Shape, TypeExpr, TypeNode, TypeNode-F, roll-TypeNode, roll-TypeExpr, fold-TypeNode, fold-roll-TypeNode, fold-roll-TypeExpr, ind-TypeExpr, map-TypeNode, types_in, IsAmong, met, met_node, met_step, Found, Written, node_found, written_step, written_of, type_by}
 use Rattle.std.specs.Prelude.{◌⊎◌}
-use Rattle.std.proofs.lemmas.Bool.{or_left, or_right}
-use Rattle.span_text.specs.declared.spot.Spot.{Spot}
-use Rattle.epl_values.specs.declared.shape.Shape.{Shape}
 use Rattle.epl_values.specs.declared.shape.Shape.TheVariants as shape
 use Rattle.epl_values.specs.declared.shape.Shape.TheOpen as layer
-use Rattle.epl_values.specs.declared.shape.Shape.TheFolds.{fold-roll-Shape}
-use Rattle.epl_tree.specs.declared.types.TypeExpr.{TypeExpr}
-use Rattle.epl_tree.specs.declared.types.TypeNode.{TypeNode}
-use Rattle.epl_tree.specs.declared.types.TypeNode.TheOpen.{TypeNode-F}
 use Rattle.epl_tree.specs.declared.types.TypeNode.TheOpen as node
-use Rattle.epl_tree.specs.declared.types.TypeNode.TheViews.{roll-TypeNode, roll-TypeExpr}
-use Rattle.epl_tree.specs.declared.types.TypeNode.TheFolds.{fold-TypeNode, fold-roll-TypeNode, fold-roll-TypeExpr, ind-TypeExpr, map-TypeNode}
-use Rattle.event_types.specs.Types.{Form, IntegerForm, BooleanForm, TextForm, SequenceForm, DictionaryForm, EventForm, ContextForm, ListenerForm, form_step, form_of, types_in, IsAmong}
-use Rattle.type_table.specs.Chains.{met, met_node, met_step}
-use Rattle.type_table.specs.Found.{Found}
-use Rattle.type_table.specs.Types.{Written, event_shape as found_shape, node_found, written_step, written_of, type_by}
+use Rattle.event_types.specs.Types.{Form, IntegerForm, BooleanForm, TextForm, SequenceForm, DictionaryForm, EventForm, ContextForm, ListenerForm, form_step, form_of}
+use Rattle.type_table.specs.Types.{event_shape as found_shape}
 
 -- ---- shapes as plain data
 

@@ -1,21 +1,13 @@
 -- Where each event type's name leads to itself by no chain as long as there are event types, none contains itself at any depth.
-use Rattle.std.proofs.Common.{◌≡◌, ℕ, zero, suc, ◌+◌, ◌<◌, ◌≤◌, length, map, List, [], ◌∷◌, Some, None, Bool, true, false, ◌||◌, Option, refl, ap, sym, subst, ◌∙◌, slice_get, arith, eqb, inl, inr, option_map}
+use Rattle.program_laws.proofs.Common.{◌≡◌, ℕ, zero, suc, ◌+◌, ◌<◌, ◌≤◌, length, map, List, [], ◌∷◌, Some, None, Bool, true, false, ◌||◌, Option, refl, ap, sym, subst, ◌∙◌, slice_get, arith, inl, inr, option_map, AllByRecursion, flat_map, list_any, bytes_eq, cases_lt, eqb-true, or_cases, or_left, or_right, length-map, slice_get-map, slice_get_within, bytes_eq-Decides, EventShape, Field, EventDecl, FieldDecl, types_in, IsAmong, HasNoCycle, met, at_event, numbers, event_shape, names_of, found_at}
+use Rattle.std.proofs.Common.{eqb}
 use Rattle.std.specs.Prelude.{◌⊎◌}
-use Rattle.std.specs.List.{AllByRecursion, IsDistinct, flat_map, list_any}
-use Rattle.std.specs.Str.{bytes_eq}
-use Rattle.std.proofs.lemmas.Bool.{cases_lt, ne_eqb, eqb-true, or_cases, true≢false, or_left, or_right}
-use Rattle.std.proofs.lemmas.List.{length-map}
+use Rattle.std.specs.List.{IsDistinct}
+use Rattle.std.proofs.lemmas.Bool.{ne_eqb, true≢false}
 use Rattle.std.proofs.lemmas.Map.Steps.{length-le_from_distinct_below}
-use Rattle.std.proofs.lemmas.Option.{slice_get-map, slice_get_within}
-use Rattle.std.proofs.lemmas.Slice.Eq.{bytes_eq-Decides}
-use Rattle.epl_values.specs.declared.shape.EventShape.{EventShape}
-use Rattle.epl_values.specs.declared.shape.Field.{Field}
-use Rattle.epl_tree.specs.declared.unit.EventDecl.{EventDecl}
-use Rattle.epl_tree.specs.declared.unit.FieldDecl.{FieldDecl}
-use Rattle.event_types.specs.Types.{form_of, types_in, types_held, fields_of, IsAmong, Holds, HasNoCycle}
-use Rattle.type_table.specs.Chains.{met, at_event, any_field, leads}
-use Rattle.type_table.specs.Gathers.{numbers, event_shape, field_shape}
-use Rattle.type_table.specs.Kinds.{names_of, found_at}
+use Rattle.event_types.specs.Types.{form_of, types_held, fields_of, Holds}
+use Rattle.type_table.specs.Chains.{any_field, leads}
+use Rattle.type_table.specs.Gathers.{field_shape}
 use Rattle.program_laws.proofs.Limits.Chains.{MetBy, among_met, among_both}
 use Rattle.program_laws.proofs.Limits.Kinds.{KindFine}
 use Rattle.program_laws.proofs.Limits.Names.{Differ, name_at, number_at}

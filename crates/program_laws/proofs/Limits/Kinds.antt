@@ -1,22 +1,11 @@
 -- The event types of files in which no fault is found: none contains itself, and each has few fields and few leaves.
-use Rattle.std.proofs.Common.{◌≡◌, ℕ, ◌+◌, ◌<◌, ◌≤◌, length, map, List, [], ◌∷◌, ◌++◌, Bool, true, false, ◌||◌, nat_le, nat_lt, if◌then◌else◌, sym, subst, arith}
-use Rattle.std.specs.List.{AllByRecursion}
-use Rattle.std.proofs.lemmas.List.{length-append}
-use Rattle.std.proofs.lemmas.List.Sums.{sum_by-append, sum_by-cons}
-use Rattle.std.proofs.lemmas.Bool.{or_parts, leb-false, ltb-false}
-use Rattle.epl_tree.specs.declared.unit.Declaration.{Declaration}
+use Rattle.program_laws.proofs.Common.{◌≡◌, ℕ, ◌+◌, ◌<◌, ◌≤◌, length, map, List, [], ◌∷◌, ◌++◌, Bool, true, false, ◌||◌, nat_le, nat_lt, if◌then◌else◌, sym, subst, arith, AllByRecursion, length-append, sum_by-append, sum_by-cons, or_parts, leb-false, Declaration, EventDecl, FieldDecl, Gathered, contains_itself, field_count, told, numbers, count_of, field_faults, fields_faults, event_faults, declaration_faults, faults_from, gathered_after, with_event, with_monitor, units_faults, none_gathered, in_file, declarations_of, names_of, with_kind, kinds_after, kinds_of, has_name, type_by}
+use Rattle.std.proofs.lemmas.Bool.{ltb-false}
 use Rattle.epl_tree.specs.declared.unit.Declaration.TheVariants as declaration
-use Rattle.epl_tree.specs.declared.unit.EventDecl.{EventDecl}
-use Rattle.epl_tree.specs.declared.unit.FieldDecl.{FieldDecl}
 use Rattle.epl_tree.specs.declared.unit.Unit.{Unit as File}
 use Rattle.type_table.proofs.Chosen.{kinds_append}
-use Rattle.type_table.specs.declared.gathered.Gathered.{Gathered}
-use Rattle.type_table.specs.Chains.{holds, contains_itself, field_count, whole_width}
-use Rattle.type_table.specs.Found.{told}
-use Rattle.type_table.specs.Gathers.{numbers, when, is_named, count_of, field_faults, fields_faults, event_faults, declaration_faults, faults_from, gathered_after, with_event, with_monitor, units_faults, none_gathered, in_file}
-use Rattle.type_table.specs.Kinds.{declarations_of, names_of, with_kind, kinds_after, kinds_of}
-use Rattle.type_table.specs.Names.{has_name}
-use Rattle.type_table.specs.Types.{type_by}
+use Rattle.type_table.specs.Chains.{holds, whole_width}
+use Rattle.type_table.specs.Gathers.{when, is_named}
 use Rattle.program_laws.proofs.Shapes.Lists.{all_append, no_both, no_told, no_when, no_map}
 
 -- an event type in which no fault is found

@@ -1,30 +1,14 @@
 -- Members, monitors and files in which no fault is found: there are few monitors, few parameters, and few bodies.
-use Rattle.std.proofs.Common.{◌≡◌, ℕ, ◌+◌, ◌<◌, ◌≤◌, length, map, List, [], ◌∷◌, ◌++◌, not, nat_le, refl, sym, subst, arith}
-use Rattle.std.specs.List.{AllByRecursion}
-use Rattle.std.proofs.lemmas.List.{length-append}
-use Rattle.std.proofs.lemmas.Bool.{leb-false}
-use Rattle.epl_tree.specs.declared.unit.ActionDecl.{ActionDecl}
-use Rattle.epl_tree.specs.declared.unit.Declaration.{Declaration}
+use Rattle.program_laws.proofs.Common.{◌≡◌, ℕ, ◌+◌, ◌<◌, ◌≤◌, length, map, List, [], ◌∷◌, ◌++◌, not, nat_le, refl, sym, subst, arith, AllByRecursion, length-append, leb-false, ActionDecl, Declaration, EventDecl, GlobalDecl, Member, MonitorDecl, Action, Fault, Gathered, Table, numbers, with_event, with_monitor, monitor_faults, declaration_faults, faults_from, gathered_after, units_faults, units_gathered, none_gathered, in_file, has_onload, has_name, Made, action_of, action_read, body_around, body_start, global_read, members_read, monitor_of, declarations_read, file_made, files_faults, files_made, nothing_made, row_read}
 use Rattle.epl_tree.specs.declared.unit.Declaration.TheVariants as declaration
-use Rattle.epl_tree.specs.declared.unit.EventDecl.{EventDecl}
-use Rattle.epl_tree.specs.declared.unit.GlobalDecl.{GlobalDecl}
-use Rattle.epl_tree.specs.declared.unit.Member.{Member}
 use Rattle.epl_tree.specs.declared.unit.Member.TheVariants as member
-use Rattle.epl_tree.specs.declared.unit.MonitorDecl.{MonitorDecl}
 use Rattle.epl_tree.specs.declared.unit.Unit.{Unit as File}
-use Rattle.typed_program.specs.declared.program.Action.{Action}
 use Rattle.type_table.specs.declared.fault.CheckFault.TheVariants as check
-use Rattle.type_table.specs.declared.fault.Fault.{Fault}
-use Rattle.type_table.specs.declared.gathered.Gathered.{Gathered}
-use Rattle.type_table.specs.declared.table.Table.{Table}
-use Rattle.type_table.specs.Gathers.{numbers, with_event, with_monitor, when, monitor_faults, declaration_faults, faults_from, gathered_after, units_faults, units_gathered, none_gathered, in_file}
-use Rattle.type_table.specs.Heads.{monitor_head, has_onload}
-use Rattle.type_table.specs.Names.{has_name}
-use Rattle.stmt_check.specs.declared.made.Made.{Made}
-use Rattle.stmt_check.specs.Actions.{action_of, action_read, body_around, body_start}
-use Rattle.stmt_check.specs.Members.{global_read, members_read, monitor_of, monitor_read, with_monitor as made_monitor}
-use Rattle.stmt_check.specs.Programs.{declarations_read, file_made, files_faults, files_made, nothing_made, in_file as faults_in}
-use Rattle.stmt_check.specs.Statements.{part_of, row_read}
+use Rattle.type_table.specs.Gathers.{when}
+use Rattle.type_table.specs.Heads.{monitor_head}
+use Rattle.stmt_check.specs.Members.{monitor_read, with_monitor as made_monitor}
+use Rattle.stmt_check.specs.Programs.{in_file as faults_in}
+use Rattle.stmt_check.specs.Statements.{part_of}
 use Rattle.stmt_check.specs.Steps.{◌>>=◌, pure, changes}
 use Rattle.program_laws.proofs.Limits.Statements.{body_keeps}
 use Rattle.program_laws.proofs.Shapes.Lists.{all_append, no_both, no_told, no_when, no_map}

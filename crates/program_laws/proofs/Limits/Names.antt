@@ -1,20 +1,12 @@
 -- The event types of a program have different names, so each is the one of its name.
-use Rattle.std.proofs.Common.{◌≡◌, ℕ, zero, suc, length, List, [], ◌∷◌, ◌++◌, Some, None, Bool, true, false, if◌then◌else◌, Option, refl, ap, sym, subst, ◌∙◌, slice_get, get_or, arith, is_some, inl, inr}
+use Rattle.program_laws.proofs.Common.{◌≡◌, ℕ, zero, suc, length, List, [], ◌∷◌, ◌++◌, Some, None, Bool, true, false, if◌then◌else◌, Option, refl, ap, sym, subst, ◌∙◌, slice_get, get_or, arith, is_some, inl, inr, list_any, bytes_eq, or_parts, position-Some, bytes_eq-Decides, Declaration, EventDecl, declarations_of, names_of, with_kind, kinds_after, kinds_of, has_name, number_in}
 use Rattle.std.specs.Prelude.{◌⊎◌}
-use Rattle.std.specs.List.{list_any}
-use Rattle.std.specs.Str.{bytes_eq}
-use Rattle.std.proofs.lemmas.Bool.{true≢false, or_parts}
-use Rattle.std.proofs.lemmas.List.Quantifiers.{position-Some}
+use Rattle.std.proofs.lemmas.Bool.{true≢false}
 use Rattle.std.proofs.lemmas.Option.{slice_get-get_or}
-use Rattle.std.proofs.lemmas.Slice.Eq.{bytes_eq-Decides}
-use Rattle.epl_tree.specs.declared.unit.Declaration.{Declaration}
 use Rattle.epl_tree.specs.declared.unit.Declaration.TheVariants as declaration
-use Rattle.epl_tree.specs.declared.unit.EventDecl.{EventDecl}
 use Rattle.epl_tree.specs.declared.unit.Unit.{Unit as File}
 use Rattle.type_table.proofs.Chosen.{names_append}
 use Rattle.type_table.proofs.Places.{position-some}
-use Rattle.type_table.specs.Kinds.{declarations_of, names_of, with_kind, kinds_after, kinds_of}
-use Rattle.type_table.specs.Names.{has_name, number_in}
 use Rattle.program_laws.proofs.Shapes.Lists.{none_isnt}
 
 -- no two of these names are the same

@@ -1,22 +1,8 @@
 -- A part of a body in which no fault is found leaves room: its sites, with the bodies before them, are 65,535 at most.
-use Rattle.std.proofs.Common.{◌≡◌, ℕ, ◌+◌, ◌<◌, ◌≤◌, length, List, [], ◌∷◌, Some, None, Bool, true, false, ◌||◌, not, nat_le, Option, refl, ap, arith, take, drop, insert, IfSome}
-use Rattle.std.specs.List.{AllByRecursion}
-use Rattle.std.proofs.lemmas.List.{length-append, take-append-drop}
-use Rattle.std.proofs.lemmas.Bool.{leb-false}
-use Rattle.span_text.specs.declared.spot.Spot.{Spot}
-use Rattle.epl_tree.specs.declared.event.EventExpr.{EventExpr}
-use Rattle.epl_values.specs.declared.shape.Shape.{Shape}
-use Rattle.epl_tree.specs.declared.name.Name.{Name}
-use Rattle.typed_program.specs.declared.program.TypedTerm.{TypedTerm}
-use Rattle.typed_program.specs.declared.statement.Stmt.{Stmt}
-use Rattle.type_table.specs.declared.scope.Seen.{Seen}
-use Rattle.type_table.specs.declared.scope.SeenKind.{SeenKind}
-use Rattle.type_table.specs.Found.{Found}
-use Rattle.listener_check.specs.Terms.{term_found}
-use Rattle.stmt_check.specs.declared.state.State.{State}
-use Rattle.stmt_check.specs.Bodies.{Around, in_callback, name_read, local_read, scoped, when, captured_in, bound_in, callback_start, site_of}
-use Rattle.stmt_check.specs.Statements.{Part, on_codes, callback_read, listen_read}
-use Rattle.stmt_check.specs.Steps.{After, Reads, ◌>>=◌, pure, given, looks, reads_by, tells, changes, within, before_all, each, optional}
+use Rattle.program_laws.proofs.Common.{◌≡◌, ℕ, ◌+◌, ◌<◌, ◌≤◌, length, List, [], ◌∷◌, Some, None, Bool, true, false, ◌||◌, not, nat_le, Option, refl, ap, arith, take, drop, insert, IfSome, AllByRecursion, length-append, take-append-drop, leb-false, Spot, EventExpr, Shape, Name, TypedTerm, Stmt, Seen, SeenKind, Found, term_found, State, Around, in_callback, local_read, scoped, when, captured_in, bound_in, callback_start, site_of, on_codes, callback_read, listen_read, After, Reads}
+use Rattle.stmt_check.specs.Bodies.{name_read}
+use Rattle.stmt_check.specs.Statements.{Part}
+use Rattle.stmt_check.specs.Steps.{◌>>=◌, pure, given, looks, reads_by, tells, changes, within, before_all, each, optional}
 use Rattle.program_laws.proofs.Shapes.Lists.{no_both, no_told, no_when}
 
 -- behind so many bodies, a part without a fault leaves room where there was room

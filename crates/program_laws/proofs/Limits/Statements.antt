@@ -1,20 +1,10 @@
 -- Every statement leaves room, by induction over its tree.
-use Rattle.std.proofs.Common.{ℕ, ◌+◌, map, List, [], ◌∷◌, Some, None, Bool, Option, IfSome}
-use Rattle.std.specs.List.{AllByRecursion}
-use Rattle.span_text.specs.declared.spot.Spot.{Spot}
-use Rattle.epl_tree.specs.declared.expression.Expr.{Expr}
-use Rattle.epl_tree.specs.declared.name.Name.{Name}
-use Rattle.epl_tree.specs.declared.statement.Place.{Place}
+use Rattle.program_laws.proofs.Common.{ℕ, ◌+◌, map, List, [], ◌∷◌, Some, None, Bool, Option, IfSome, AllByRecursion, Spot, Expr, Name, Place, TypeExpr, TypedExpr, ActionHead, Table, Demand, Around, in_loop, scoped, NodePart, OnPart, reads, maybe_read, spawned_read, spawn_read, channel_read, monitor_read, row_read, other_read, block_read, on_read, if_read, while_read, turn_read, for_read, declare_on_read, assign_on_read, declare_read, declare_as_read, return_read}
 use Rattle.epl_tree.specs.declared.statement.Stmt.{Stmt as Tree}
 use Rattle.epl_tree.specs.declared.statement.StmtNode.TheOpen as stmt
-use Rattle.epl_tree.specs.declared.types.TypeExpr.{TypeExpr}
-use Rattle.typed_program.specs.declared.expression.TypedExpr.{TypedExpr}
 use Rattle.type_table.specs.declared.scope.SeenKind.TheVariants as kind
-use Rattle.type_table.specs.declared.table.ActionHead.{ActionHead}
-use Rattle.type_table.specs.declared.table.Table.{Table}
-use Rattle.expr_rules.specs.Asked.{Demand}
-use Rattle.stmt_check.specs.Bodies.{Around, in_loop, scoped, action_named}
-use Rattle.stmt_check.specs.Statements.{Part, NodePart, OnPart, part_of, reads, maybe_read, spawned_read, spawn_read, channel_read, monitor_read, row_read, other_read, block_read, on_read, if_read, while_read, turn_read, for_read, declare_on_read, assign_on_read, declare_read, declare_as_read, return_read, element_of, shape_of}
+use Rattle.stmt_check.specs.Bodies.{action_named}
+use Rattle.stmt_check.specs.Statements.{Part, part_of, element_of, shape_of}
 use Rattle.program_laws.proofs.Limits.Room.{Keeps, PartKeeps, keeps_bind, keeps_pure, keeps_given, keeps_looks, keeps_tells, keeps_by, keeps_name, keeps_local, keeps_scoped, keeps_each, keeps_optional, listen_keeps}
 use Rattle.program_laws.proofs.Shapes.Inductions.{part_at, NodeLayer, OnLayer, PartLayer, parts_have, every_statement, on_at}
 

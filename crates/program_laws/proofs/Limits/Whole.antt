@@ -1,21 +1,10 @@
 -- The program of files in which no fault is found has event types of different names, none of which contains itself, and
 -- keeps the limits.
-use Rattle.std.proofs.Common.{◌≡◌, ℕ, ◌+◌, ◌≤◌, length, map, List, Some, true, ap, sym, subst, ◌∙◌, slice_get, arith, option_map}
-use Rattle.std.specs.List.{list_all}
-use Rattle.std.proofs.lemmas.List.{length-map}
-use Rattle.std.proofs.lemmas.Option.{slice_get-map}
-use Rattle.std.proofs.lemmas.Bool.{le-leb}
-use Rattle.epl_values.specs.declared.shape.EventShape.{EventShape}
-use Rattle.epl_tree.specs.declared.unit.EventDecl.{EventDecl}
+use Rattle.program_laws.proofs.Common.{◌≡◌, ℕ, ◌+◌, ◌≤◌, length, map, List, Some, true, ap, sym, subst, ◌∙◌, slice_get, arith, option_map, list_all, length-map, slice_get-map, le-leb, EventShape, EventDecl, HasNoCycle, Program, are_narrow, event_shape, numbers, kinds_of, names_of, IsProgram, made_of}
 use Rattle.epl_tree.specs.declared.unit.Unit.{Unit as File}
-use Rattle.event_types.specs.Types.{HasNoCycle}
-use Rattle.typed_program.specs.declared.program.Program.{Program}
-use Rattle.typed_program.specs.Limits.{are_narrow, has_few_params, within_limits}
+use Rattle.typed_program.specs.Limits.{has_few_params, within_limits}
 use Rattle.event_types.specs.Types.{HasDistinctNames}
 use Rattle.type_table.proofs.Filed.{shapes_named}
-use Rattle.type_table.specs.Gathers.{event_shape, numbers}
-use Rattle.type_table.specs.Kinds.{kinds_of, names_of}
-use Rattle.stmt_check.specs.Programs.{IsProgram, made_of}
 use Rattle.program_laws.proofs.Limits.Cycles.{none_contains}
 use Rattle.program_laws.proofs.Limits.Kinds.{kinds_fine}
 use Rattle.program_laws.proofs.Limits.Members.{FilesFew, files_few}

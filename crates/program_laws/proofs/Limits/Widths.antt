@@ -1,30 +1,17 @@
 -- The leaves of an event type by numbers are no more than those that are counted by names, so there are few.
-use Rattle.std.proofs.Common.{◌≡◌, ℕ, zero, suc, ◌+◌, ◌<◌, ◌≤◌, min, length, map, List, [], ◌∷◌, Some, None, true, Option, refl, ap, sym, subst, ◌∙◌, slice_get, arith, nat_le, option_map}
-use Rattle.std.specs.List.{AllByRecursion, sum_by}
-use Rattle.std.proofs.lemmas.List.{length-map}
-use Rattle.std.proofs.lemmas.List.Sums.{sum_by-cons}
-use Rattle.std.proofs.lemmas.Option.{slice_get-map, slice_get_within}
-use Rattle.std.proofs.lemmas.Bool.{le-leb}
-use Rattle.span_text.specs.declared.spot.Spot.{Spot}
-use Rattle.epl_values.specs.declared.shape.EventShape.{EventShape}
-use Rattle.epl_values.specs.declared.shape.Field.{Field}
-use Rattle.epl_values.specs.declared.shape.Shape.{Shape, Shape-F, out-Shape}
+use Rattle.program_laws.proofs.Common.{◌≡◌, ℕ, zero, suc, ◌+◌, ◌<◌, ◌≤◌, min, length, map, List, [], ◌∷◌, Some, None, true, Option, refl, ap, sym, subst, ◌∙◌, slice_get, arith, nat_le, option_map, AllByRecursion, length-map, sum_by-cons, slice_get-map, slice_get_within, le-leb, Spot, EventShape, Field, Shape, Shape-F, out-Shape, TypeExpr, TypeNode, TypeNode-F, fold-TypeNode, map-TypeNode, EventDecl, FieldDecl, are_narrow, at_event, field_count, Found, numbers, event_shape, names_of, found_at, Written, node_found, written_step, written_of, type_by}
+use Rattle.std.specs.List.{sum_by}
 use Rattle.epl_values.specs.declared.shape.Shape.TheVariants as shape
 use Rattle.epl_values.specs.declared.shape.Shape.TheOpen as layer
-use Rattle.epl_tree.specs.declared.types.TypeExpr.{TypeExpr, fold_out-TypeExpr}
-use Rattle.epl_tree.specs.declared.types.TypeNode.{TypeNode, out-TypeNode}
-use Rattle.epl_tree.specs.declared.types.TypeNode.TheOpen.{TypeNode-F}
+use Rattle.epl_tree.specs.declared.types.TypeExpr.{fold_out-TypeExpr}
+use Rattle.epl_tree.specs.declared.types.TypeNode.{out-TypeNode}
 use Rattle.epl_tree.specs.declared.types.TypeNode.TheOpen as node
-use Rattle.epl_tree.specs.declared.types.TypeNode.TheFolds.{fold-TypeNode, fold_out-TypeNode, map-TypeNode}
-use Rattle.epl_tree.specs.declared.unit.EventDecl.{EventDecl}
-use Rattle.epl_tree.specs.declared.unit.FieldDecl.{FieldDecl}
+use Rattle.epl_tree.specs.declared.types.TypeNode.TheFolds.{fold_out-TypeNode}
 use Rattle.typed_program.specs.Expressions.{fields_at}
-use Rattle.typed_program.specs.Limits.{field_width, width, is_narrow, are_narrow}
-use Rattle.type_table.specs.Chains.{at_event, nested_layer, field_count, width as named_width}
-use Rattle.type_table.specs.Found.{Found}
-use Rattle.type_table.specs.Gathers.{numbers, event_shape, field_shape}
-use Rattle.type_table.specs.Kinds.{names_of, found_at}
-use Rattle.type_table.specs.Types.{Written, event_shape as found_shape, node_found, written_step, written_of, type_by}
+use Rattle.typed_program.specs.Limits.{field_width, width, is_narrow}
+use Rattle.type_table.specs.Chains.{nested_layer, width as named_width}
+use Rattle.type_table.specs.Gathers.{field_shape}
+use Rattle.type_table.specs.Types.{event_shape as found_shape}
 use Rattle.program_laws.proofs.Limits.Kinds.{KindFine}
 use Rattle.program_laws.proofs.Limits.Names.{name_at}
 use Rattle.program_laws.proofs.Shapes.Lists.{all_at, both_true, slice_some}

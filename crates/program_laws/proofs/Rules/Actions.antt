@@ -1,21 +1,11 @@
 -- The body of an action keeps the rules, and ends with a `return` where the action has a result.
-use Rattle.std.proofs.Common.{◌≡◌, ℕ, suc, ◌+◌, ◌≤◌, ◌==◌, length, map, List, [], ◌∷◌, ◌++◌, Some, Bool, true, false, ◌||◌, not, is_some, Option, refl, ap, sym, ◌∙◌, slice_get, arith}
-use Rattle.std.specs.List.{AllByRecursion, list_any}
-use Rattle.epl_values.specs.declared.shape.Shape.{Shape}
+use Rattle.program_laws.proofs.Common.{◌≡◌, ℕ, suc, ◌+◌, ◌≤◌, ◌==◌, length, map, List, [], ◌∷◌, ◌++◌, Some, Bool, true, false, ◌||◌, not, is_some, Option, refl, ap, sym, ◌∙◌, slice_get, arith, AllByRecursion, list_any, Shape, Program, Site, Stmt, special_in, action_lawful, ActionHead, Table, is_callback, State, Around, row_read, After}
 use Rattle.epl_tree.specs.declared.statement.Stmt.{Stmt as Tree}
-use Rattle.typed_program.specs.declared.program.Program.{Program}
-use Rattle.typed_program.specs.declared.program.Site.{Site}
-use Rattle.typed_program.specs.declared.statement.Stmt.{Stmt}
 use Rattle.typed_program.specs.Courses.{row_of, ends_with_return}
-use Rattle.typed_program.specs.Rules.{special_in, callback_lawful, action_lawful, params_from}
-use Rattle.type_table.specs.declared.table.ActionHead.{ActionHead}
-use Rattle.type_table.specs.declared.table.Table.{Table}
-use Rattle.expr_rules.specs.Calls.{is_callback}
-use Rattle.stmt_check.specs.declared.state.State.{State}
-use Rattle.stmt_check.specs.Bodies.{Around, action_named}
+use Rattle.typed_program.specs.Rules.{callback_lawful, params_from}
+use Rattle.stmt_check.specs.Bodies.{action_named}
 use Rattle.stmt_check.specs.Endings.{ends_with_return as tree_ends}
-use Rattle.stmt_check.specs.Statements.{part_of, row_read}
-use Rattle.stmt_check.specs.Steps.{After}
+use Rattle.stmt_check.specs.Statements.{part_of}
 use Rattle.program_laws.proofs.Lawful.Rules.{LawRules}
 use Rattle.program_laws.proofs.Rules.Begins.{start_sees}
 use Rattle.program_laws.proofs.Rules.Compounds.{rows_law}

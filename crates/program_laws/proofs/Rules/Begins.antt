@@ -1,22 +1,8 @@
 -- Where the body of an action begins: its parameters are visible by their places, and its names differ.
-use Rattle.std.proofs.Common.{◌≡◌, ℕ, suc, ◌+◌, ◌≤◌, min, length, map, List, [], ◌∷◌, ◌++◌, Some, Bool, true, false, if◌then◌else◌, is_some, Option, refl, ap, sym, subst, ◌∙◌, arith, append_assoc}
-use Rattle.std.specs.List.{AllByRecursion}
-use Rattle.std.specs.Str.{bytes_eq}
-use Rattle.std.proofs.lemmas.Bool.{or_parts, or_from}
-use Rattle.epl_values.specs.declared.shape.Shape.{Shape}
-use Rattle.typed_program.specs.declared.program.Program.{Program}
-use Rattle.typed_program.specs.declared.program.Site.{Site}
-use Rattle.typed_program.specs.Paths.{Held, Visible, visible_at}
+use Rattle.program_laws.proofs.Common.{◌≡◌, ℕ, suc, ◌+◌, ◌≤◌, min, length, map, List, [], ◌∷◌, ◌++◌, Some, Bool, true, false, if◌then◌else◌, is_some, Option, refl, ap, sym, subst, ◌∙◌, arith, append_assoc, AllByRecursion, bytes_eq, or_parts, or_from, Shape, Program, Site, Held, Visible, visible_at, Seen, GlobalHead, ParamHead, Table, global_seen, globals_after, params_from, param_wants, SeesName, is_barred, short}
 use Rattle.typed_program.specs.Rules.{params_from as params_visible}
-use Rattle.type_table.specs.declared.scope.Seen.{Seen}
-use Rattle.type_table.specs.declared.table.GlobalHead.{GlobalHead}
-use Rattle.type_table.specs.declared.table.ParamHead.{ParamHead}
-use Rattle.type_table.specs.declared.table.Table.{Table}
-use Rattle.type_table.specs.Scopes.{global_seen, param_seen, place_in, with_global, globals_after, params_from}
-use Rattle.expr_rules.specs.Calls.{param_wants}
+use Rattle.type_table.specs.Scopes.{param_seen, place_in, with_global}
 use Rattle.expr_rules.specs.Places.{is_global as is_global_name}
-use Rattle.program_laws.specs.Sees.{SeesName, is_barred}
-use Rattle.stmt_check.specs.Bodies.{short}
 use Rattle.program_laws.proofs.Rules.Lookups.{Differ, is_there, names_of, names_append, any_last, differ_more, not_seen, not_there, bytes_swap, Below, below_more, below_both, found_behind, found_here}
 use Rattle.program_laws.proofs.Rules.ParamNames.{ParamsApart, param_names, global_names}
 use Rattle.program_laws.proofs.Rules.Sights.{Sees, global_same}

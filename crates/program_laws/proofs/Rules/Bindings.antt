@@ -1,17 +1,8 @@
 -- Names that an event expression binds stand behind those around it, and differ from them and from one another.
-use Rattle.std.proofs.Common.{◌≡◌, ℕ, Bool, true, false, if◌then◌else◌, List, [], ◌∷◌, ◌++◌, map, drop, length, is_some, refl, sym, ap, subst, ◌∙◌, append_assoc}
-use Rattle.epl_tree.specs.declared.event.TemplateClause.{TemplateClause}
+use Rattle.program_laws.proofs.Common.{◌≡◌, ℕ, Bool, true, false, if◌then◌else◌, List, [], ◌∷◌, ◌++◌, map, drop, length, is_some, refl, sym, ap, subst, ◌∙◌, append_assoc, TemplateClause, EventExpr, roll-EventExpr, fold-roll-EventExpr, EventNode, EventNode-F, map-EventNode, roll-EventNode, fold-EventNode, fold-roll-EventNode, ind-EventExpr, Scope, Seen, Table, seen_of, seen_bound, clause_binds, clauses_bind, binds, bound_in}
 use Rattle.epl_tree.specs.declared.event.TemplateClause.TheVariants as clause
-use Rattle.epl_tree.specs.declared.event.EventExpr.{EventExpr, roll-EventExpr, fold-roll-EventExpr}
-use Rattle.epl_tree.specs.declared.event.EventNode.{EventNode, EventNode-F, map-EventNode, roll-EventNode, fold-EventNode, fold-roll-EventNode}
 use Rattle.epl_tree.specs.declared.event.EventNode.TheOpen as node
-use Rattle.epl_tree.specs.declared.event.EventNode.TheFolds.{ind-EventExpr}
-use Rattle.type_table.specs.declared.scope.Scope.{Scope}
-use Rattle.type_table.specs.declared.scope.Seen.{Seen}
-use Rattle.type_table.specs.declared.table.Table.{Table}
-use Rattle.type_table.specs.Table.{seen_of}
-use Rattle.listener_check.specs.Bound.{seen_bound, clause_binds, clauses_bind, each, node_step, expr_step, binds}
-use Rattle.stmt_check.specs.Bodies.{bound_in}
+use Rattle.listener_check.specs.Bound.{each, node_step, expr_step}
 use Rattle.program_laws.proofs.Rules.Lookups.{Differ, names_of, names_append, differ_more, not_seen, not_there}
 
 -- a scope with more names, which differ where those before do

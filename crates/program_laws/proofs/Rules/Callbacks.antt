@@ -1,26 +1,12 @@
 -- A listener: what is evaluated at it keeps the rules there, and its callback keeps them behind the names that it takes along.
-use Rattle.std.proofs.Common.{◌≡◌, ℕ, zero, suc, ◌+◌, ◌<◌, ◌≤◌, length, List, [], ◌∷◌, ◌++◌, Bool, true, false, ◌&&◌, nat_lt, Option, refl, ap, sym, subst, ◌∙◌, slice_get, arith}
-use Rattle.std.proofs.lemmas.Option.{slice_get_within}
-use Rattle.std.proofs.lemmas.Bool.{or_left, lt-ltb}
-use Rattle.epl_values.specs.declared.shape.Shape.{Shape}
-use Rattle.epl_tree.specs.declared.event.EventExpr.{EventExpr}
-use Rattle.typed_program.specs.declared.program.Site.{Site}
-use Rattle.typed_program.specs.declared.program.TypedTerm.{TypedTerm}
-use Rattle.typed_program.specs.declared.statement.Stmt.{Stmt}
+use Rattle.program_laws.proofs.Common.{◌≡◌, ℕ, zero, suc, ◌+◌, ◌<◌, ◌≤◌, length, List, [], ◌∷◌, ◌++◌, Bool, true, false, ◌&&◌, nat_lt, Option, refl, ap, sym, subst, ◌∙◌, slice_get, arith, slice_get_within, or_left, lt-ltb, Shape, EventExpr, Site, TypedTerm, Stmt, if_known, Mention, all_mention, Visible, names_in, callback_params, special_in, term_lawful, Seen, Mentioned, State, Around, in_callback, captured_in, bound_in, callback_start, site_of, with_site, site_number, event_names, either, callback_read, After}
 use Rattle.typed_program.specs.Courses.{runs, captures, listens, callback_sees}
-use Rattle.typed_program.specs.Expressions.{if_known}
-use Rattle.typed_program.specs.Mentions.{Mention, all_mention, site_mentions, body_mentions, names_captured}
-use Rattle.typed_program.specs.Paths.{Visible}
-use Rattle.typed_program.specs.Programs.{names_in, callback_params, callback_names}
-use Rattle.typed_program.specs.Rules.{special_in, callback_lawful}
-use Rattle.typed_program.specs.TermRules.{term_lawful}
-use Rattle.type_table.specs.declared.scope.Seen.{Seen}
-use Rattle.program_laws.specs.Sees.{Mentioned}
-use Rattle.stmt_check.specs.declared.state.State.{State}
-use Rattle.stmt_check.specs.Bodies.{Around, in_callback, captured_in, bound_in, callback_start, site_of, with_site, site_number}
-use Rattle.stmt_check.specs.Captures.{Names as Named, event_names, either}
-use Rattle.stmt_check.specs.Statements.{Part, callback_read}
-use Rattle.stmt_check.specs.Steps.{After, reads_by, within}
+use Rattle.typed_program.specs.Mentions.{site_mentions, body_mentions, names_captured}
+use Rattle.typed_program.specs.Programs.{callback_names}
+use Rattle.typed_program.specs.Rules.{callback_lawful}
+use Rattle.stmt_check.specs.Captures.{Names as Named}
+use Rattle.stmt_check.specs.Statements.{Part}
+use Rattle.stmt_check.specs.Steps.{reads_by, within}
 use Rattle.program_laws.proofs.Lawful.Rules.{TermLawful}
 use Rattle.program_laws.proofs.Rules.Captured.{rising_ascend, all_visible, named_all}
 use Rattle.program_laws.proofs.Rules.Claims.{Claims, claims_of, law_fits}

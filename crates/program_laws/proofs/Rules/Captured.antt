@@ -1,18 +1,12 @@
 -- The names that a callback takes along and those that are bound: what is visible where it begins.
-use Rattle.std.proofs.Common.{◌≡◌, ℕ, zero, suc, ◌+◌, ◌<◌, ◌==◌, length, map, List, [], ◌∷◌, ◌++◌, Some, None, Bool, true, false, ◌&&◌, if◌then◌else◌, is_some, Option, refl, ap, sym, ◌∙◌, slice_get, arith, append_assoc}
-use Rattle.std.specs.List.{AllByRecursion, list_all, list_any}
-use Rattle.std.proofs.lemmas.Bool.{or_left, or_right, lt-ltb, eq-eqb}
-use Rattle.typed_program.specs.declared.program.Local.{Local}
-use Rattle.typed_program.specs.Courses.{taken_from, captured_from, bound_from, ascend}
-use Rattle.typed_program.specs.Mentions.{Mention, all_named}
-use Rattle.typed_program.specs.Paths.{Kind, Free, Held, Bound, Visible, visible_at}
+use Rattle.program_laws.proofs.Common.{◌≡◌, ℕ, zero, suc, ◌+◌, ◌<◌, ◌==◌, length, map, List, [], ◌∷◌, ◌++◌, Some, None, Bool, true, false, ◌&&◌, if◌then◌else◌, is_some, Option, refl, ap, sym, ◌∙◌, slice_get, arith, append_assoc, AllByRecursion, list_all, list_any, or_left, or_right, lt-ltb, eq-eqb, Local, taken_from, captured_from, bound_from, Mention, Kind, Held, Bound, Visible, visible_at, Seen, SeenKind, SeesName, kind_seen, is_outer, outer_kind}
+use Rattle.typed_program.specs.Courses.{ascend}
+use Rattle.typed_program.specs.Mentions.{all_named}
+use Rattle.typed_program.specs.Paths.{Free}
 use Rattle.typed_program.specs.Shapes.{is_reference}
-use Rattle.type_table.specs.declared.scope.Seen.{Seen}
-use Rattle.type_table.specs.declared.scope.SeenKind.{SeenKind}
 use Rattle.type_table.specs.declared.scope.SeenKind.TheVariants as kind
 use Rattle.expr_rules.specs.Places.{is_global}
-use Rattle.program_laws.specs.Sees.{SeesName, kind_seen, is_outer}
-use Rattle.stmt_check.specs.Bodies.{outer_kind, local_of}
+use Rattle.stmt_check.specs.Bodies.{local_of}
 use Rattle.program_laws.proofs.Rules.Lookups.{Below, below_more, below_both, found_behind, found_here}
 use Rattle.program_laws.proofs.Shapes.Lists.{both_true, none_isnt}
 use Rattle.program_laws.proofs.Shapes.Rising.{Rising}

@@ -1,21 +1,13 @@
 -- Rows, blocks, `if` and `while`, where each part keeps the rules.
-use Rattle.std.proofs.Common.{◌≡◌, ℕ, map, List, [], ◌∷◌, Some, None, Bool, true, Option, refl, option_map, IfSome}
-use Rattle.std.specs.List.{AllByRecursion}
-use Rattle.epl_values.specs.declared.shape.Shape.{Shape}
+use Rattle.program_laws.proofs.Common.{◌≡◌, ℕ, map, List, [], ◌∷◌, Some, None, Bool, true, Option, refl, option_map, IfSome, AllByRecursion, Shape, Expr, TypedExpr, Stmt, Reading, Mention, mentions, Visible, path_of, Mentioned, State, Around, in_loop, scoped, left, expr_names, either, any_of, if_any, exactly, reads, row_read, block_read, other_read, if_read, while_read}
 use Rattle.epl_values.specs.declared.shape.Shape.TheVariants as shape
-use Rattle.epl_tree.specs.declared.expression.Expr.{Expr}
-use Rattle.typed_program.specs.declared.expression.TypedExpr.{TypedExpr}
-use Rattle.typed_program.specs.declared.statement.Stmt.{Stmt}
 use Rattle.typed_program.specs.declared.statement.Stmt.TheVariants as made
 use Rattle.typed_program.specs.declared.statement.Stmt.TheOpen as layer
-use Rattle.typed_program.specs.Courses.{Reading, row_of, if_there}
-use Rattle.typed_program.specs.Mentions.{Mention, mentions, either as either_mention, any_of as any_mention, if_any as if_mention}
-use Rattle.typed_program.specs.Paths.{Visible, plain, path_of}
-use Rattle.program_laws.specs.Sees.{Mentioned}
-use Rattle.stmt_check.specs.declared.state.State.{State}
-use Rattle.stmt_check.specs.Bodies.{Around, in_loop, scoped, left}
-use Rattle.stmt_check.specs.Captures.{Names as Named, expr_names, either, any_of, if_any}
-use Rattle.stmt_check.specs.Statements.{Part, exactly, reads, row_read, block_read, other_read, if_read, while_read}
+use Rattle.typed_program.specs.Courses.{row_of, if_there}
+use Rattle.typed_program.specs.Mentions.{either as either_mention, any_of as any_mention, if_any as if_mention}
+use Rattle.typed_program.specs.Paths.{plain}
+use Rattle.stmt_check.specs.Captures.{Names as Named}
+use Rattle.stmt_check.specs.Statements.{Part}
 use Rattle.stmt_check.specs.Steps.{◌>>=◌, pure, before_all, each}
 use Rattle.program_laws.proofs.Lawful.Rules.{LawRules}
 use Rattle.program_laws.proofs.Rules.Claims.{Claims, law_bind, law_pure, law_as, law_put, law_scoped, law_none, law_some}

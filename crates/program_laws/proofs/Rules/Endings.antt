@@ -1,28 +1,17 @@
 -- A row of statements ends with a `return` where the row that it is made of does.
-use Rattle.std.proofs.Common.{◌≡◌, ℕ, map, List, [], ◌∷◌, Some, None, Bool, true, false, ◌&&◌, Option, refl, ap, ap₂, sym, subst, ◌∙◌, slice_get}
-use Rattle.span_text.specs.declared.spot.Spot.{Spot}
-use Rattle.epl_tree.specs.declared.expression.Expr.{Expr}
-use Rattle.epl_tree.specs.declared.statement.Listening.{Listening}
+use Rattle.program_laws.proofs.Common.{◌≡◌, ℕ, map, List, [], ◌∷◌, Some, None, Bool, true, false, ◌&&◌, Option, refl, ap, ap₂, sym, subst, ◌∙◌, slice_get, Spot, Expr, Listening, StmtNode, StmtNode-F, Stmt-F, roll-StmtNode, roll-Stmt, fold-StmtNode, fold-Listening, fold-Stmt, fold-roll-StmtNode, fold-roll-Stmt, ind-Stmt, map-StmtNode, map-Stmt, TypedExpr, Stmt, ActionHead, Table, State, Around, NodePart, OnPart, node_part, on_part, stmt_part, row_read, spawned_read, channel_read, is_subscribe}
 use Rattle.epl_tree.specs.declared.statement.Stmt.{Stmt as Tree}
-use Rattle.epl_tree.specs.declared.statement.StmtNode.{StmtNode}
-use Rattle.epl_tree.specs.declared.statement.StmtNode.TheOpen.{StmtNode-F, Stmt-F}
 use Rattle.epl_tree.specs.declared.statement.StmtNode.TheOpen as stmt
-use Rattle.epl_tree.specs.declared.statement.StmtNode.TheViews.{roll-StmtNode, roll-Stmt}
-use Rattle.epl_tree.specs.declared.statement.StmtNode.TheFolds.{fold-StmtNode, fold-Listening, fold-Stmt, fold-roll-StmtNode, fold-roll-Stmt, ind-Stmt, map-StmtNode, map-Stmt}
-use Rattle.typed_program.specs.declared.expression.TypedExpr.{TypedExpr}
-use Rattle.typed_program.specs.declared.statement.Stmt.{Stmt, fold-Stmt as fold_made}
+use Rattle.typed_program.specs.declared.statement.Stmt.{fold-Stmt as fold_made}
 use Rattle.typed_program.specs.declared.statement.Stmt.TheVariants as made
 use Rattle.typed_program.specs.declared.statement.Stmt.TheOpen as layer
 use Rattle.typed_program.specs.declared.statement.Stmt.TheOpen.{Stmt-F as Layer}
 use Rattle.typed_program.specs.declared.statement.Stmt.TheViews.{roll-Stmt as roll_made}
 use Rattle.typed_program.specs.declared.statement.Stmt.TheFolds.{fold-roll-Stmt as fold_roll_made, map-Stmt as map_made}
 use Rattle.typed_program.specs.Courses.{Ending, last_ends, ending_step, ends_with_return}
-use Rattle.type_table.specs.declared.table.ActionHead.{ActionHead}
-use Rattle.type_table.specs.declared.table.Table.{Table}
-use Rattle.stmt_check.specs.declared.state.State.{State}
-use Rattle.stmt_check.specs.Bodies.{Around, action_named}
+use Rattle.stmt_check.specs.Bodies.{action_named}
 use Rattle.stmt_check.specs.Endings.{Ending as TreeEnding, last_ends as tree_last, ending_node, ending_step as tree_step, ending_of, ends_with_return as tree_ends}
-use Rattle.stmt_check.specs.Statements.{Part, NodePart, OnPart, node_part, on_part, stmt_part, part_of, row_read, spawned_read, channel_read, is_subscribe}
+use Rattle.stmt_check.specs.Statements.{Part, part_of}
 use Rattle.stmt_check.specs.Steps.{◌>>=◌, pure, given, looks, reads_by, tells, changes, within, before_all, each, optional}
 
 -- how a statement ends that is made

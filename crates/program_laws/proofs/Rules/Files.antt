@@ -1,23 +1,7 @@
 -- Declarations and files in order: all that is made of them keeps the rules.
-use Rattle.std.proofs.Common.{◌≡◌, ℕ, ◌≤◌, length, List, [], ◌∷◌, ◌++◌, Some, true, is_some, refl, ap, sym, ◌∙◌, slice_get, arith}
-use Rattle.std.specs.List.{AllByRecursion}
-use Rattle.epl_tree.specs.declared.unit.EventDecl.{EventDecl}
-use Rattle.epl_tree.specs.declared.unit.MonitorDecl.{MonitorDecl}
+use Rattle.program_laws.proofs.Common.{◌≡◌, ℕ, ◌≤◌, length, List, [], ◌∷◌, ◌++◌, Some, true, is_some, refl, ap, sym, ◌∙◌, slice_get, arith, AllByRecursion, EventDecl, MonitorDecl, Global, Monitor, Program, monitor_lawful, action_lawful, initial_lawful, MonitorHead, Table, numbers, units_faults, units_gathered, none_gathered, globals_in, event_of, KnowsType, Made, short, members_read, monitor_of, files_faults, files_made, nothing_made}
 use Rattle.epl_tree.specs.declared.unit.Unit.{Unit as File}
-use Rattle.typed_program.specs.declared.program.Global.{Global}
-use Rattle.typed_program.specs.declared.program.Monitor.{Monitor}
-use Rattle.typed_program.specs.declared.program.Program.{Program}
-use Rattle.typed_program.specs.Rules.{monitor_lawful, action_lawful, initial_lawful}
-use Rattle.type_table.specs.declared.table.MonitorHead.{MonitorHead}
-use Rattle.type_table.specs.declared.table.Table.{Table}
-use Rattle.type_table.specs.Gathers.{numbers, units_faults, units_gathered, none_gathered}
-use Rattle.type_table.specs.Heads.{monitor_head, globals_in}
-use Rattle.type_table.specs.Table.{event_of}
-use Rattle.program_laws.specs.Known.{KnowsType}
-use Rattle.stmt_check.specs.declared.made.Made.{Made}
-use Rattle.stmt_check.specs.Bodies.{short}
-use Rattle.stmt_check.specs.Members.{members_read, monitor_of}
-use Rattle.stmt_check.specs.Programs.{files_faults, files_made, nothing_made}
+use Rattle.type_table.specs.Heads.{monitor_head}
 use Rattle.program_laws.proofs.Lawful.Rules.{LawRules}
 use Rattle.program_laws.proofs.Rules.Members.{MembersKeep, ActionsKeep, members_keep}
 use Rattle.program_laws.proofs.Rules.Specials.{special_apart}

@@ -1,23 +1,10 @@
 -- Statements without parts that are statements: where no fault is found, each keeps the rules.
-use Rattle.std.proofs.Common.{◌≡◌, ℕ, List, [], true, false, not, Option, refl}
-use Rattle.std.proofs.lemmas.Bool.{not-false}
-use Rattle.span_text.specs.declared.spot.Spot.{Spot}
-use Rattle.epl_values.specs.declared.shape.Shape.{Shape}
+use Rattle.program_laws.proofs.Common.{◌≡◌, ℕ, List, [], true, false, not, Option, refl, not-false, Spot, Shape, Expr, Place, Visible, Event, Channel, Statement, like, Target, place_found, State, Around, when, none, expr_names, optional_names, place_names, either, exactly, asked, wanted, for_place, reads, print_read, log_read, route_read, send_read, call_read, assign_read, return_read, jump_read, return_codes, target_shape, maybe_read}
 use Rattle.epl_values.specs.declared.shape.Shape.TheVariants as shape
-use Rattle.epl_tree.specs.declared.expression.Expr.{Expr}
 use Rattle.epl_tree.specs.declared.statement.Level.{Level}
-use Rattle.epl_tree.specs.declared.statement.Place.{Place}
 use Rattle.typed_program.specs.declared.statement.Stmt.TheVariants as made
 use Rattle.typed_program.specs.declared.statement.Stmt.TheOpen as layer
 use Rattle.typed_program.specs.Mentions.{none as no_mention}
-use Rattle.typed_program.specs.Paths.{Visible}
-use Rattle.expr_rules.specs.Asked.{Event, Channel, Statement, like}
-use Rattle.expr_check.specs.declared.check.Target.{Target}
-use Rattle.expr_check.specs.Checks.{place_found}
-use Rattle.stmt_check.specs.declared.state.State.{State}
-use Rattle.stmt_check.specs.Bodies.{Around, when}
-use Rattle.stmt_check.specs.Captures.{none, expr_names, optional_names, place_names, either}
-use Rattle.stmt_check.specs.Statements.{exactly, asked, wanted, for_place, reads, print_read, log_read, route_read, send_read, call_read, assign_read, return_read, jump_read, return_codes, target_shape, maybe_read}
 use Rattle.stmt_check.specs.Steps.{◌>>=◌, pure, looks, tells}
 use Rattle.program_laws.proofs.Lawful.Rules.{LawRules}
 use Rattle.program_laws.proofs.Rules.Claims.{Claims, law_bind, law_pure, law_tells}

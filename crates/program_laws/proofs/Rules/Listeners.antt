@@ -1,26 +1,10 @@
 -- Statements with listeners, where each listener keeps the rules.
-use Rattle.std.proofs.Common.{◌≡◌, ℕ, List, [], Some, Bool, true}
-use Rattle.span_text.specs.declared.spot.Spot.{Spot}
-use Rattle.epl_values.specs.declared.shape.Shape.{Shape}
-use Rattle.epl_tree.specs.declared.event.EventExpr.{EventExpr}
-use Rattle.epl_tree.specs.declared.name.Name.{Name}
-use Rattle.epl_tree.specs.declared.statement.Place.{Place}
-use Rattle.epl_tree.specs.declared.types.TypeExpr.{TypeExpr}
-use Rattle.typed_program.specs.declared.program.TypedTerm.{TypedTerm}
+use Rattle.program_laws.proofs.Common.{◌≡◌, ℕ, List, [], Some, Bool, true, Spot, Shape, EventExpr, Name, Place, TypeExpr, TypedTerm, all_mention, Visible, type_found, Target, place_found, term_found, Mentioned, State, Around, bound_in, local_read, place_names, event_names, either, OnPart, on_codes, on_read, declare_on_read, assign_on_read, listen_read, callback_read, takes_listener, target_shape}
 use Rattle.typed_program.specs.declared.statement.Stmt.TheVariants as made
 use Rattle.typed_program.specs.declared.statement.Stmt.TheOpen as layer
-use Rattle.typed_program.specs.Mentions.{all_mention}
-use Rattle.typed_program.specs.Paths.{Visible}
 use Rattle.type_table.specs.declared.scope.SeenKind.TheVariants as kind
-use Rattle.type_table.specs.Types.{type_found}
-use Rattle.expr_check.specs.declared.check.Target.{Target}
-use Rattle.expr_check.specs.Checks.{place_found}
-use Rattle.listener_check.specs.Terms.{term_found}
-use Rattle.program_laws.specs.Sees.{Mentioned}
-use Rattle.stmt_check.specs.declared.state.State.{State}
-use Rattle.stmt_check.specs.Bodies.{Around, bound_in, name_read, local_read}
-use Rattle.stmt_check.specs.Captures.{place_names, event_names, either}
-use Rattle.stmt_check.specs.Statements.{Part, OnPart, on_codes, on_read, declare_on_read, assign_on_read, listen_read, callback_read, takes_listener, target_shape}
+use Rattle.stmt_check.specs.Bodies.{name_read}
+use Rattle.stmt_check.specs.Statements.{Part}
 use Rattle.stmt_check.specs.Steps.{◌>>=◌, pure, given, looks, tells}
 use Rattle.program_laws.proofs.Lawful.Rules.{LawRules, TermLawful}
 use Rattle.program_laws.proofs.Rules.Callbacks.{callback_law}

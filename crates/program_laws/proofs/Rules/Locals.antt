@@ -1,27 +1,12 @@
 -- Names that are declared: each is visible by a number of its own from there on.
-use Rattle.std.proofs.Common.{◌≡◌, ℕ, suc, ◌+◌, ◌≤◌, List, [], ◌∷◌, ◌++◌, Some, true, false, nat_le, is_some, Option, refl, sym, ap, subst, ◌∙◌, arith}
-use Rattle.std.specs.List.{list_any}
-use Rattle.epl_values.specs.declared.shape.Shape.{Shape}
-use Rattle.epl_tree.specs.declared.expression.Expr.{Expr}
-use Rattle.epl_tree.specs.declared.name.Name.{Name}
-use Rattle.epl_tree.specs.declared.types.TypeExpr.{TypeExpr}
+use Rattle.program_laws.proofs.Common.{◌≡◌, ℕ, suc, ◌+◌, ◌≤◌, List, [], ◌∷◌, ◌++◌, Some, true, false, nat_le, is_some, Option, refl, sym, ap, subst, ◌∙◌, arith, list_any, Shape, Expr, Name, TypeExpr, Visible, Seen, SeenKind, told, seen_of, type_found, SeesName, is_barred, kind_seen, State, Around, when, short, local_codes, local_read, seen_local, with_local, none, expr_names, exactly, reads, declare_read, declare_as_read}
 use Rattle.typed_program.specs.declared.statement.Stmt.TheVariants as made
 use Rattle.typed_program.specs.declared.statement.Stmt.TheOpen as layer
 use Rattle.typed_program.specs.Courses.{with_local as with_visible}
 use Rattle.typed_program.specs.Mentions.{none as no_mention}
-use Rattle.typed_program.specs.Paths.{Visible}
-use Rattle.type_table.specs.declared.scope.Seen.{Seen}
-use Rattle.type_table.specs.declared.scope.SeenKind.{SeenKind}
 use Rattle.type_table.specs.declared.scope.SeenKind.TheVariants as kind
-use Rattle.type_table.specs.Found.{told}
-use Rattle.type_table.specs.Table.{seen_of}
-use Rattle.type_table.specs.Types.{type_found}
 use Rattle.expr_rules.specs.Places.{is_global}
-use Rattle.program_laws.specs.Sees.{SeesName, is_barred, kind_seen}
-use Rattle.stmt_check.specs.declared.state.State.{State}
-use Rattle.stmt_check.specs.Bodies.{Around, when, short, local_codes, name_read, local_read, seen_local, with_local}
-use Rattle.stmt_check.specs.Captures.{none, expr_names}
-use Rattle.stmt_check.specs.Statements.{exactly, reads, declare_read, declare_as_read}
+use Rattle.stmt_check.specs.Bodies.{name_read}
 use Rattle.stmt_check.specs.Steps.{◌>>=◌, pure, given, tells, changes}
 use Rattle.program_laws.proofs.Lawful.Rules.{LawRules}
 use Rattle.program_laws.proofs.Rules.Claims.{Claims, claims_of, law_bind, law_pure, law_given, law_more}

@@ -1,15 +1,6 @@
 -- The first item that passes a test, names that all differ, and numbers that are found among those visible.
-use Rattle.std.proofs.Common.{◌≡◌, ℕ, zero, suc, ◌+◌, ◌<◌, ◌≤◌, ◌==◌, length, map, List, [], ◌∷◌, ◌++◌, Some, None, Bool, true, false, cond, ◌||◌, not, is_some, Option, refl, ap, sym, ◌∙◌, slice_get, nat_lt, arith, position}
-use Rattle.std.specs.List.{list_any, position_or_len}
-use Rattle.std.specs.Str.{bytes_eq}
-use Rattle.std.proofs.lemmas.Bool.Decides.{nat_tests}
-use Rattle.std.proofs.lemmas.Slice.Eq.{bytes_eq-Decides}
-use Rattle.std.proofs.lemmas.Bool.{or_parts, or_from, eq-eqb}
-use Rattle.typed_program.specs.Paths.{Visible, visible_at}
-use Rattle.type_table.specs.declared.scope.Scope.{Scope}
-use Rattle.type_table.specs.declared.scope.Seen.{Seen}
-use Rattle.type_table.specs.Table.{seen_of}
-use Rattle.expr_rules.specs.Names.{seen, item_at}
+use Rattle.program_laws.proofs.Common.{◌≡◌, ℕ, zero, suc, ◌+◌, ◌<◌, ◌≤◌, ◌==◌, length, map, List, [], ◌∷◌, ◌++◌, Some, None, Bool, true, false, cond, ◌||◌, not, is_some, Option, refl, ap, sym, ◌∙◌, slice_get, nat_lt, arith, list_any, position_or_len, bytes_eq, nat_tests, bytes_eq-Decides, or_parts, or_from, eq-eqb, Visible, visible_at, Scope, Seen, seen_of, seen, item_at}
+use Rattle.std.proofs.Common.{position}
 use Rattle.program_laws.proofs.Shapes.Lists.{none_isnt}
 use Rattle.program_laws.proofs.Shapes.Monitors.{lt_more, zero_lt}
 

@@ -1,23 +1,12 @@
 -- `for`: its variable is visible in the turns alone, and is one that holds what isn't changed.
-use Rattle.std.proofs.Common.{◌≡◌, ℕ, suc, map, List, Bool, true, false, refl, sym, subst}
-use Rattle.std.specs.List.{AllByRecursion, list_any}
-use Rattle.epl_values.specs.declared.shape.Shape.{Shape}
-use Rattle.epl_tree.specs.declared.expression.Expr.{Expr}
-use Rattle.epl_tree.specs.declared.name.Name.{Name}
-use Rattle.typed_program.specs.declared.expression.TypedExpr.{TypedExpr}
+use Rattle.program_laws.proofs.Common.{◌≡◌, ℕ, suc, map, List, Bool, true, false, refl, sym, subst, AllByRecursion, list_any, Shape, Expr, Name, TypedExpr, Reading, shape_of, Mention, mentions, Held, Visible, path_of, Sequence, Mentioned, State, Around, in_loop, local_read, scoped, left, expr_names, either, any_of, asked, reads, row_read, for_read, turn_read}
 use Rattle.typed_program.specs.declared.statement.Stmt.TheVariants as made
 use Rattle.typed_program.specs.declared.statement.Stmt.TheOpen as layer
-use Rattle.typed_program.specs.Courses.{Reading, with_local as with_visible}
-use Rattle.typed_program.specs.Expressions.{shape_of}
-use Rattle.typed_program.specs.Mentions.{Mention, mentions}
-use Rattle.typed_program.specs.Paths.{Held, Visible, path_of}
+use Rattle.typed_program.specs.Courses.{with_local as with_visible}
 use Rattle.type_table.specs.declared.scope.SeenKind.TheVariants as kind
-use Rattle.expr_rules.specs.Asked.{Sequence}
-use Rattle.program_laws.specs.Sees.{Mentioned}
-use Rattle.stmt_check.specs.declared.state.State.{State}
-use Rattle.stmt_check.specs.Bodies.{Around, in_loop, name_read, local_read, scoped, left}
-use Rattle.stmt_check.specs.Captures.{Names as Named, expr_names, either, any_of}
-use Rattle.stmt_check.specs.Statements.{Part, asked, reads, row_read, for_read, turn_read, element_of}
+use Rattle.stmt_check.specs.Bodies.{name_read}
+use Rattle.stmt_check.specs.Captures.{Names as Named}
+use Rattle.stmt_check.specs.Statements.{Part, element_of}
 use Rattle.stmt_check.specs.Steps.{◌>>=◌, pure}
 use Rattle.program_laws.proofs.Lawful.Rules.{LawRules}
 use Rattle.program_laws.proofs.Rules.Claims.{Claims, claims_of, law_bind, law_pure, law_scoped, law_both}

@@ -1,35 +1,11 @@
 -- The members of a monitor in order: what its globals begin with and its actions keep the rules.
-use Rattle.std.proofs.Common.{◌≡◌, ℕ, ◌+◌, ◌≤◌, ◌==◌, length, map, List, [], ◌∷◌, ◌++◌, Some, None, Bool, true, false, ◌&&◌, ◌||◌, not, nat_le, is_some, Option, refl, ap, sym, subst, ◌∙◌, slice_get, arith, append_assoc}
-use Rattle.std.specs.List.{AllByRecursion}
-use Rattle.std.proofs.lemmas.Bool.{not-false}
-use Rattle.epl_values.specs.declared.shape.Shape.{Shape}
-use Rattle.epl_tree.specs.declared.expression.Expr.{Expr}
-use Rattle.epl_tree.specs.declared.types.TypeExpr.{TypeExpr}
-use Rattle.epl_tree.specs.declared.unit.ActionDecl.{ActionDecl}
-use Rattle.epl_tree.specs.declared.unit.GlobalDecl.{GlobalDecl}
-use Rattle.epl_tree.specs.declared.unit.Member.{Member}
+use Rattle.program_laws.proofs.Common.{◌≡◌, ℕ, ◌+◌, ◌≤◌, ◌==◌, length, map, List, [], ◌∷◌, ◌++◌, Some, None, Bool, true, false, ◌&&◌, ◌||◌, not, nat_le, is_some, Option, refl, ap, sym, subst, ◌∙◌, slice_get, arith, append_assoc, AllByRecursion, not-false, Shape, Expr, TypeExpr, ActionDecl, GlobalDecl, Member, TypedExpr, Action, Global, Program, Site, action_lawful, initial_lawful, Table, actions_from, globals_in, result_head, event_of, type_found, result_given, KnowsType, gives_result, SeesNamed, Made, action_of, action_read, actions_before, body_around, body_start, member_codes, short, when, is_special, expr_names, ends_with_return, global_read, members_read, exactly, row_read}
 use Rattle.epl_tree.specs.declared.unit.Member.TheVariants as member
-use Rattle.typed_program.specs.declared.expression.TypedExpr.{TypedExpr}
-use Rattle.typed_program.specs.declared.program.Action.{Action}
-use Rattle.typed_program.specs.declared.program.Global.{Global}
-use Rattle.typed_program.specs.declared.program.Program.{Program}
-use Rattle.typed_program.specs.declared.program.Site.{Site}
-use Rattle.typed_program.specs.Rules.{action_lawful, initial_lawful, nothing_visible}
-use Rattle.type_table.specs.declared.table.Table.{Table}
-use Rattle.type_table.specs.Heads.{action_head, actions_from, globals_in, result_head}
+use Rattle.typed_program.specs.Rules.{nothing_visible}
+use Rattle.type_table.specs.Heads.{action_head}
 use Rattle.type_table.specs.Scopes.{start_of}
-use Rattle.type_table.specs.Table.{event_of}
-use Rattle.type_table.specs.Types.{type_found}
-use Rattle.expr_rules.specs.Calls.{result_given}
-use Rattle.program_laws.specs.Known.{KnowsType, gives_result}
-use Rattle.program_laws.specs.Sees.{SeesNamed}
-use Rattle.stmt_check.specs.declared.made.Made.{Made}
-use Rattle.stmt_check.specs.Actions.{action_codes, action_of, action_read, actions_before, body_around, body_start, member_codes}
-use Rattle.stmt_check.specs.Bodies.{short, when, is_special}
-use Rattle.stmt_check.specs.Captures.{expr_names}
-use Rattle.stmt_check.specs.Endings.{ends_with_return}
-use Rattle.stmt_check.specs.Members.{global_read, members_read}
-use Rattle.stmt_check.specs.Statements.{exactly, part_of, row_read}
+use Rattle.stmt_check.specs.Actions.{action_codes}
+use Rattle.stmt_check.specs.Statements.{part_of}
 use Rattle.stmt_check.specs.Steps.{◌>>=◌, pure}
 use Rattle.program_laws.proofs.Lawful.Rules.{LawRules}
 use Rattle.program_laws.proofs.Rules.Actions.{Apart, action_keeps}

@@ -1,22 +1,7 @@
 -- The parameters of an action in which no fault is found: their names differ from one another and from those of globals.
-use Rattle.std.proofs.Common.{◌≡◌, ℕ, map, List, [], ◌∷◌, ◌++◌, false, ◌||◌, length, nat_le, refl, ap, sym, subst, ◌∙◌, append_assoc}
-use Rattle.std.specs.List.{AllByRecursion, list_any}
-use Rattle.std.specs.Str.{bytes_eq}
-use Rattle.std.proofs.lemmas.Bool.{or_parts, or_from}
-use Rattle.epl_tree.specs.declared.unit.ActionDecl.{ActionDecl}
-use Rattle.epl_tree.specs.declared.unit.Member.{Member}
+use Rattle.program_laws.proofs.Common.{◌≡◌, ℕ, map, List, [], ◌∷◌, ◌++◌, false, ◌||◌, length, nat_le, refl, ap, sym, subst, ◌∙◌, append_assoc, AllByRecursion, list_any, bytes_eq, or_parts, or_from, ActionDecl, Member, Param, GlobalHead, ParamHead, Table, told, param_head, globals_in, event_of, type_found, Made, is_param_named, is_global_named, param_codes, param_read, action_read, when}
 use Rattle.epl_tree.specs.declared.unit.Member.TheVariants as member
-use Rattle.epl_tree.specs.declared.unit.Param.{Param}
-use Rattle.type_table.specs.declared.table.GlobalHead.{GlobalHead}
-use Rattle.type_table.specs.declared.table.ParamHead.{ParamHead}
-use Rattle.type_table.specs.declared.table.Table.{Table}
-use Rattle.type_table.specs.Found.{told}
-use Rattle.type_table.specs.Heads.{param_head, globals_in}
-use Rattle.type_table.specs.Table.{event_of}
-use Rattle.type_table.specs.Types.{type_found}
-use Rattle.stmt_check.specs.declared.made.Made.{Made}
-use Rattle.stmt_check.specs.Actions.{is_global, is_param_named, is_global_named, param_codes, param_read, params_found, action_codes, action_read}
-use Rattle.stmt_check.specs.Bodies.{when}
+use Rattle.stmt_check.specs.Actions.{is_global, params_found, action_codes}
 use Rattle.stmt_check.specs.Steps.{◌>>=◌, pure, given, tells, changes, before_all, each}
 use Rattle.program_laws.proofs.Rules.Lookups.{Differ, is_there, differ_more}
 use Rattle.program_laws.proofs.Shapes.Lists.{no_both, no_told, no_when}

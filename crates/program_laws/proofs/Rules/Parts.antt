@@ -1,15 +1,9 @@
 -- What is asked of a part of a body: where no fault is found, it keeps the rules wherever it is read.
-use Rattle.std.proofs.Common.{ℕ, List, Bool}
-use Rattle.span_text.specs.declared.spot.Spot.{Spot}
-use Rattle.epl_values.specs.declared.shape.Shape.{Shape}
+use Rattle.program_laws.proofs.Common.{ℕ, List, Bool, Spot, Shape, Visible, special_in, State, Around, NodePart, OnPart}
 use Rattle.typed_program.specs.Courses.{listens_at}
 use Rattle.typed_program.specs.Mentions.{listening}
-use Rattle.typed_program.specs.Paths.{Visible}
-use Rattle.typed_program.specs.Rules.{special_in}
-use Rattle.stmt_check.specs.declared.state.State.{State}
-use Rattle.stmt_check.specs.Bodies.{Around}
 use Rattle.stmt_check.specs.Captures.{Names as Named}
-use Rattle.stmt_check.specs.Statements.{Part, NodePart, OnPart}
+use Rattle.stmt_check.specs.Statements.{Part}
 use Rattle.program_laws.proofs.Rules.Claims.{Claims}
 use Rattle.program_laws.proofs.Rules.Readings.{Read, Keeps}
 use Rattle.program_laws.proofs.Rules.Sights.{Law, Sees}

@@ -1,33 +1,14 @@
 -- Expressions, places and arguments where a body is read: they keep the rules there, and mention what they name.
-use Rattle.std.proofs.Common.{◌≡◌, ℕ, map, List, [], Some, None, Bool, true, false, ◌||◌, Option, refl, ap, sym, subst, ◌∙◌}
-use Rattle.std.specs.List.{list_all}
-use Rattle.std.proofs.lemmas.Bool.{or_left, or_right}
-use Rattle.std.proofs.lemmas.List.{append-nil}
-use Rattle.epl_values.specs.declared.shape.Shape.{Shape}
-use Rattle.epl_tree.specs.declared.expression.Expr.{Expr}
-use Rattle.epl_tree.specs.declared.statement.Place.{Place}
-use Rattle.typed_program.specs.declared.statement.Stmt.{Stmt}
+use Rattle.program_laws.proofs.Common.{◌≡◌, ℕ, map, List, [], Some, None, Bool, true, false, ◌||◌, Option, refl, ap, sym, subst, ◌∙◌, list_all, or_left, or_right, append-nil, Shape, Expr, Place, Stmt, Reading, assigns, Mention, mentions, all_mention, place_mentions, Visible, path_of, special_in, Scope, Seen, ParamHead, Demand, Wish, typed_arguments, seen, place_found, expr_found, permitted, Mentioned, is_barred, State, Around, none, either, expr_names, place_names, exprs_name, optional_names, asked, reads, args_read, maybe_read}
 use Rattle.typed_program.specs.declared.statement.Stmt.TheOpen.{Stmt-F}
 use Rattle.typed_program.specs.declared.statement.Stmt.TheViews.{roll-Stmt}
 use Rattle.typed_program.specs.declared.statement.Stmt.TheFolds.{fold-roll-Stmt, map-Stmt}
-use Rattle.typed_program.specs.Courses.{Reading, stmt_reading, assigns, returns}
-use Rattle.typed_program.specs.Mentions.{Mention, mentions, all_mention, maybe_mentions, place_mentions, stmt_step, either as either_mention}
-use Rattle.typed_program.specs.Paths.{Visible, plain, path_of}
-use Rattle.typed_program.specs.Rules.{special_in}
-use Rattle.type_table.specs.declared.scope.Scope.{Scope}
-use Rattle.type_table.specs.declared.scope.Seen.{Seen}
-use Rattle.type_table.specs.declared.table.ParamHead.{ParamHead}
-use Rattle.expr_rules.specs.Asked.{Demand, Wish}
-use Rattle.expr_rules.specs.Calls.{typed_arguments}
-use Rattle.expr_rules.specs.Names.{seen}
+use Rattle.typed_program.specs.Courses.{stmt_reading, returns}
+use Rattle.typed_program.specs.Mentions.{maybe_mentions, stmt_step, either as either_mention}
+use Rattle.typed_program.specs.Paths.{plain}
 use Rattle.expr_rules.specs.Places.{is_global}
-use Rattle.expr_check.specs.Checks.{place_found}
-use Rattle.expr_check.specs.Expressions.{expr_found, part_of as expr_part}
-use Rattle.program_laws.specs.Sees.{permitted, Mentioned, is_barred}
-use Rattle.stmt_check.specs.declared.state.State.{State}
-use Rattle.stmt_check.specs.Bodies.{Around}
-use Rattle.stmt_check.specs.Captures.{Names as Named, none, either, expr_names, place_names, exprs_name, optional_names}
-use Rattle.stmt_check.specs.Statements.{asked, reads, args_read, maybe_read}
+use Rattle.expr_check.specs.Expressions.{part_of as expr_part}
+use Rattle.stmt_check.specs.Captures.{Names as Named}
 use Rattle.stmt_check.specs.Steps.{looks}
 use Rattle.program_laws.proofs.Lawful.Rules.{LawRules}
 use Rattle.program_laws.proofs.Rules.Claims.{Claims, law_looks, law_none, law_some, law_as}

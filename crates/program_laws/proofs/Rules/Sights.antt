@@ -1,27 +1,11 @@
 -- What is visible while a body is read, in its text and by number, and what a part leaves visible.
-use Rattle.std.proofs.Common.{◌≡◌, ℕ, ◌+◌, ◌<◌, ◌≤◌, ◌==◌, length, take, List, [], ◌∷◌, ◌++◌, Some, Bool, true, false, refl, sym, ap, subst, ◌∙◌, slice_get, arith, append_assoc}
-use Rattle.std.specs.List.{AllByRecursion, list_any}
-use Rattle.std.proofs.lemmas.Slice.Eq.{bytes_eq-Decides}
-use Rattle.std.proofs.lemmas.List.{append-nil}
-use Rattle.epl_values.specs.declared.shape.Shape.{Shape}
-use Rattle.typed_program.specs.declared.statement.Stmt.{Stmt}
-use Rattle.typed_program.specs.Courses.{Reading, reading_of}
-use Rattle.typed_program.specs.Mentions.{Mention, stmt_mentions}
-use Rattle.typed_program.specs.Paths.{Visible, Sight}
-use Rattle.typed_program.specs.Rules.{special_in, callback_lawful}
-use Rattle.type_table.specs.declared.scope.Scope.{Scope}
-use Rattle.type_table.specs.declared.scope.Seen.{Seen}
-use Rattle.type_table.specs.declared.scope.SeenKind.{SeenKind}
+use Rattle.program_laws.proofs.Common.{◌≡◌, ℕ, ◌+◌, ◌<◌, ◌≤◌, ◌==◌, length, take, List, [], ◌∷◌, ◌++◌, Some, Bool, true, false, refl, sym, ap, subst, ◌∙◌, slice_get, arith, append_assoc, AllByRecursion, list_any, bytes_eq-Decides, append-nil, Shape, Stmt, Reading, Mention, Visible, Sight, special_in, Scope, Seen, SeenKind, ActionHead, Table, is_callback, seen, KnowsName, KnowsTable, KnowsNamed, SeesName, SeesNamed, KeepsSpecial, Mentioned, is_barred, State, Around, left}
+use Rattle.typed_program.specs.Courses.{reading_of}
+use Rattle.typed_program.specs.Mentions.{stmt_mentions}
+use Rattle.typed_program.specs.Rules.{callback_lawful}
 use Rattle.type_table.specs.declared.scope.SeenKind.TheVariants as kind
-use Rattle.type_table.specs.declared.table.ActionHead.{ActionHead}
-use Rattle.type_table.specs.declared.table.Table.{Table}
-use Rattle.expr_rules.specs.Calls.{is_callback}
-use Rattle.expr_rules.specs.Names.{seen}
 use Rattle.expr_rules.specs.Places.{is_global}
-use Rattle.program_laws.specs.Known.{KnowsName, KnowsTable, KnowsNamed}
-use Rattle.program_laws.specs.Sees.{SeesName, SeesNamed, KeepsSpecial, Mentioned, is_barred}
-use Rattle.stmt_check.specs.declared.state.State.{State}
-use Rattle.stmt_check.specs.Bodies.{Around, action_named as head_named, left, is_global as is_global_kind}
+use Rattle.stmt_check.specs.Bodies.{action_named as head_named, is_global as is_global_kind}
 use Rattle.stmt_check.specs.Captures.{Names as Named}
 use Rattle.program_laws.proofs.Rules.Lookups.{first_by, is_called, first_at, first_front, seen_first, Differ, names_of, Below, below_more}
 use Rattle.program_laws.proofs.Shapes.Frames.{Frame, Before, names_of as names_by}

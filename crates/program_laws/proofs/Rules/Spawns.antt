@@ -1,28 +1,12 @@
 -- `spawn` and the calls of a monitor: where no fault is found, an action that isn't called is not begun.
-use Rattle.std.proofs.Common.{◌≡◌, ℕ, length, map, List, [], ◌∷◌, Some, None, Bool, true, false, ◌||◌, not, ◌==◌, if◌then◌else◌, Option, refl, ap, sym, ◌∙◌, slice_get, arith, codes}
-use Rattle.std.specs.List.{list_any}
-use Rattle.std.specs.Str.{bytes_eq}
-use Rattle.std.proofs.lemmas.Bool.Decides.{nat_tests}
-use Rattle.std.proofs.lemmas.Bool.{or_parts}
-use Rattle.span_text.specs.declared.spot.Spot.{Spot}
-use Rattle.epl_values.specs.declared.shape.Shape.{Shape}
+use Rattle.program_laws.proofs.Common.{◌≡◌, ℕ, length, map, List, [], ◌∷◌, Some, None, Bool, true, false, ◌||◌, not, ◌==◌, if◌then◌else◌, Option, refl, ap, sym, ◌∙◌, slice_get, arith, codes, list_any, bytes_eq, nat_tests, or_parts, Spot, Shape, Expr, TypedExpr, Mention, mentions, Visible, path_of, special_in, Scope, ActionHead, Exactly, is_callback, Mentioned, State, Around, when, is_special, expr_names, exprs_name, optional_names, either, any_of, exactly, reads, args_read, maybe_read, begun_read, spawned_read, spawn_read, spawn_codes, has_result, control, control_codes, channel_read, monitor_read, is_subscribe}
 use Rattle.epl_values.specs.declared.shape.Shape.TheVariants as shape
-use Rattle.epl_tree.specs.declared.expression.Expr.{Expr}
-use Rattle.typed_program.specs.declared.expression.TypedExpr.{TypedExpr}
 use Rattle.typed_program.specs.declared.statement.Stmt.TheVariants as made
 use Rattle.typed_program.specs.declared.statement.Stmt.TheOpen as layer
-use Rattle.typed_program.specs.Mentions.{Mention, mentions}
-use Rattle.typed_program.specs.Paths.{Visible, plain, path_of}
-use Rattle.typed_program.specs.Rules.{special_in}
-use Rattle.type_table.specs.declared.scope.Scope.{Scope}
-use Rattle.type_table.specs.declared.table.ActionHead.{ActionHead}
-use Rattle.expr_rules.specs.Asked.{Exactly}
-use Rattle.expr_rules.specs.Calls.{is_callback}
-use Rattle.program_laws.specs.Sees.{Mentioned}
-use Rattle.stmt_check.specs.declared.state.State.{State}
-use Rattle.stmt_check.specs.Bodies.{Around, when, action_named, is_special}
-use Rattle.stmt_check.specs.Captures.{Names as Named, expr_names, exprs_name, optional_names, either, any_of}
-use Rattle.stmt_check.specs.Statements.{exactly, reads, args_read, maybe_read, begun_read, spawned_read, spawn_read, spawn_codes, has_result, control, control_codes, channel_read, monitor_read, is_subscribe, is_unsubscribe}
+use Rattle.typed_program.specs.Paths.{plain}
+use Rattle.stmt_check.specs.Bodies.{action_named}
+use Rattle.stmt_check.specs.Captures.{Names as Named}
+use Rattle.stmt_check.specs.Statements.{is_unsubscribe}
 use Rattle.stmt_check.specs.Steps.{◌>>=◌, pure, tells}
 use Rattle.program_laws.proofs.Lawful.Calls.{named_in}
 use Rattle.program_laws.proofs.Lawful.Rules.{LawRules}

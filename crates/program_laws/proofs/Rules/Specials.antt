@@ -1,24 +1,10 @@
 -- Actions of other names than `onload` and `ondie` have other numbers than those.
-use Rattle.std.proofs.Common.{◌≡◌, ℕ, ◌+◌, ◌==◌, length, List, [], ◌∷◌, Some, None, Bool, true, false, ◌||◌, Option, refl, ap, sym, ◌∙◌, slice_get, arith, codes}
-use Rattle.std.specs.List.{list_any}
-use Rattle.std.specs.Str.{bytes_eq}
-use Rattle.std.proofs.lemmas.Slice.Eq.{bytes_eq-Decides}
-use Rattle.std.proofs.lemmas.Bool.{or_parts, or_from, eqb-true}
-use Rattle.epl_tree.specs.declared.unit.Member.{Member}
+use Rattle.program_laws.proofs.Common.{◌≡◌, ℕ, ◌+◌, ◌==◌, length, List, [], ◌∷◌, Some, None, Bool, true, false, ◌||◌, Option, refl, ap, sym, ◌∙◌, slice_get, arith, codes, list_any, bytes_eq, bytes_eq-Decides, or_parts, or_from, eqb-true, Member, MonitorDecl, Monitor, Program, special_in, ActionHead, MonitorHead, Table, actions_from, has_onload, event_of, is_callback, Made, action_in, action_number, or_zero}
 use Rattle.epl_tree.specs.declared.unit.Member.TheVariants as member
-use Rattle.epl_tree.specs.declared.unit.MonitorDecl.{MonitorDecl}
-use Rattle.typed_program.specs.declared.program.Monitor.{Monitor}
-use Rattle.typed_program.specs.declared.program.Program.{Program}
-use Rattle.typed_program.specs.Rules.{special_in, specials, list_of}
-use Rattle.type_table.specs.declared.table.ActionHead.{ActionHead}
-use Rattle.type_table.specs.declared.table.MonitorHead.{MonitorHead}
-use Rattle.type_table.specs.declared.table.Table.{Table}
-use Rattle.type_table.specs.Heads.{monitor_head, actions_from, has_onload}
-use Rattle.type_table.specs.Table.{event_of}
-use Rattle.expr_rules.specs.Calls.{is_callback}
-use Rattle.stmt_check.specs.declared.made.Made.{Made}
-use Rattle.stmt_check.specs.Bodies.{action_in, action_named}
-use Rattle.stmt_check.specs.Members.{action_number, number_of, or_zero}
+use Rattle.typed_program.specs.Rules.{specials, list_of}
+use Rattle.type_table.specs.Heads.{monitor_head}
+use Rattle.stmt_check.specs.Bodies.{action_named}
+use Rattle.stmt_check.specs.Members.{number_of}
 use Rattle.program_laws.proofs.Rules.Lookups.{FirstAt, first_by, first_at, first_none, item_first, bytes_same}
 use Rattle.program_laws.proofs.Shapes.MonitorHeads.{MembersMade}
 use Rattle.program_laws.proofs.Shapes.Monitors.{Standing, by_head}

@@ -1,28 +1,10 @@
 -- Where a callback begins: the names that it takes along and those that are bound are visible by their places, and what it
 -- names it takes along.
-use Rattle.std.proofs.Common.{◌≡◌, ℕ, ◌+◌, ◌≤◌, ◌==◌, length, map, List, [], ◌∷◌, ◌++◌, Some, Bool, true, false, ◌&&◌, not, Option, refl, ap, sym, subst, ◌∙◌, slice_get, arith}
-use Rattle.std.specs.List.{AllByRecursion, list_any}
-use Rattle.std.proofs.lemmas.Option.{slice_get_within}
-use Rattle.std.proofs.lemmas.Bool.{not-true, and_parts}
-use Rattle.std.proofs.lemmas.List.{length-map}
-use Rattle.epl_values.specs.declared.shape.Shape.{Shape}
-use Rattle.epl_tree.specs.declared.event.EventExpr.{EventExpr}
-use Rattle.typed_program.specs.declared.program.Local.{Local}
-use Rattle.typed_program.specs.declared.program.TypedTerm.{TypedTerm}
-use Rattle.typed_program.specs.Courses.{taken_from, captured_from, bound_from}
-use Rattle.typed_program.specs.Mentions.{Mention}
-use Rattle.typed_program.specs.Paths.{Bound, Visible, visible_at}
+use Rattle.program_laws.proofs.Common.{◌≡◌, ℕ, ◌+◌, ◌≤◌, ◌==◌, length, map, List, [], ◌∷◌, ◌++◌, Some, Bool, true, false, ◌&&◌, not, Option, refl, ap, sym, subst, ◌∙◌, slice_get, arith, AllByRecursion, list_any, slice_get_within, not-true, and_parts, length-map, Shape, EventExpr, Local, TypedTerm, taken_from, captured_from, bound_from, Mention, Bound, Visible, visible_at, Seen, SeenKind, seen, is_known_reference, KnowsName, SeesName, Mentioned, kind_seen, is_outer, is_barred, State, Around, short, captured_in, bound_in, callback_start, known_shape, outer_kind, bound_seen, place_among}
 use Rattle.typed_program.specs.Shapes.{is_reference}
-use Rattle.type_table.specs.declared.scope.Seen.{Seen}
-use Rattle.type_table.specs.declared.scope.SeenKind.{SeenKind}
 use Rattle.type_table.specs.declared.scope.SeenKind.TheVariants as kind
-use Rattle.expr_rules.specs.Names.{seen}
 use Rattle.expr_rules.specs.Places.{is_global}
-use Rattle.expr_rules.specs.Shapes.{is_known_reference}
-use Rattle.program_laws.specs.Known.{KnowsName}
-use Rattle.program_laws.specs.Sees.{SeesName, Mentioned, kind_seen, is_outer, is_barred}
-use Rattle.stmt_check.specs.declared.state.State.{State}
-use Rattle.stmt_check.specs.Bodies.{Around, short, is_global as is_global_kind, captured_in, bound_in, callback_start, local_of, known_shape, outer_kind, outer_seen, bound_seen, place_among}
+use Rattle.stmt_check.specs.Bodies.{is_global as is_global_kind, local_of, outer_seen}
 use Rattle.stmt_check.specs.Captures.{Names as Named}
 use Rattle.program_laws.proofs.Rules.Bindings.{bound_differ}
 use Rattle.program_laws.proofs.Rules.Captured.{taken_as, captured_below, captured_found, bound_below, bound_found, taken_kind, free_outside, number_among}

@@ -1,5 +1,5 @@
 -- Every statement keeps the rules, by induction over its tree.
-use Rattle.std.proofs.Common.{map, Some, None}
+use Rattle.program_laws.proofs.Common.{map, Some, None}
 use Rattle.epl_tree.specs.declared.statement.Stmt.{Stmt as Tree}
 use Rattle.epl_tree.specs.declared.statement.StmtNode.TheOpen as stmt
 use Rattle.stmt_check.specs.Statements.{part_of}

@@ -1,14 +1,7 @@
 -- The program of files in which no fault is found keeps the rules.
-use Rattle.std.proofs.Common.{◌≡◌, ℕ, map, List, Some, refl, ap, sym, ◌∙◌, slice_get, arith}
-use Rattle.epl_values.specs.declared.shape.EventShape.{EventShape}
+use Rattle.program_laws.proofs.Common.{◌≡◌, ℕ, map, List, Some, refl, ap, sym, ◌∙◌, slice_get, arith, EventShape, Monitor, Program, Site, monitor_lawful, action_lawful, event_shape, numbers, kinds_of, names_of, IsProgram, made_of, nothing_made}
 use Rattle.epl_tree.specs.declared.unit.Unit.{Unit as File}
-use Rattle.typed_program.specs.declared.program.Monitor.{Monitor}
-use Rattle.typed_program.specs.declared.program.Program.{Program}
-use Rattle.typed_program.specs.declared.program.Site.{Site}
-use Rattle.typed_program.specs.Rules.{KeepsRules, monitor_lawful, action_lawful}
-use Rattle.type_table.specs.Gathers.{event_shape, numbers}
-use Rattle.type_table.specs.Kinds.{kinds_of, names_of}
-use Rattle.stmt_check.specs.Programs.{IsProgram, made_of, nothing_made}
+use Rattle.typed_program.specs.Rules.{KeepsRules}
 use Rattle.program_laws.proofs.Lawful.Rules.{LawRules}
 use Rattle.program_laws.proofs.Rules.Files.{AllKeeps, files_keep}
 use Rattle.program_laws.proofs.Shapes.Files.{same_numbers}

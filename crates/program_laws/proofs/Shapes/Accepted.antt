@@ -1,9 +1,6 @@
 -- The program of files in which no fault is found has its shapes.
-use Rattle.std.proofs.Common.{List}
+use Rattle.program_laws.proofs.Common.{List, Program, HasShapes, IsProgram}
 use Rattle.epl_tree.specs.declared.unit.Unit.{Unit as File}
-use Rattle.typed_program.specs.declared.program.Program.{Program}
-use Rattle.typed_program.specs.Programs.{HasShapes}
-use Rattle.stmt_check.specs.Programs.{IsProgram}
 use Rattle.program_laws.proofs.Shapes.NamedRules.{rules}
 use Rattle.program_laws.proofs.Shapes.Whole.{shapes_by_rules}
 

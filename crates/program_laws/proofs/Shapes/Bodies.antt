@@ -1,30 +1,11 @@
 -- The body of an action: what is visible where it begins, and that it holds.
-use Rattle.std.proofs.Common.{◌≡◌, ℕ, suc, ◌+◌, ◌≤◌, min, length, map, List, [], ◌∷◌, ◌++◌, Some, None, Bool, true, false, cond, if◌then◌else◌, ◌&&◌, not, is_some, Option, refl, ap, sym, subst, ◌∙◌, slice_get, arith, filter}
-use Rattle.std.specs.List.{AllByRecursion, list_all}
-use Rattle.std.proofs.lemmas.List.Elements.{filter-append}
-use Rattle.std.proofs.lemmas.Bool.{and_parts}
-use Rattle.epl_values.specs.declared.shape.Shape.{Shape}
+use Rattle.program_laws.proofs.Common.{◌≡◌, ℕ, suc, ◌+◌, ◌≤◌, min, length, map, List, [], ◌∷◌, ◌++◌, Some, None, Bool, true, false, cond, if◌then◌else◌, ◌&&◌, not, is_some, Option, refl, ap, sym, subst, ◌∙◌, slice_get, arith, filter, AllByRecursion, list_all, filter-append, and_parts, Shape, Program, Site, Stmt, names_in, global_shapes, is_there, action_so, stands, Seen, ActionHead, GlobalHead, MonitorHead, ParamHead, Table, global_seen, globals_after, params_from, param_wants, KnowsName, KnowsAction, KnowsType, result_stands, State, Around, short, action_in, row_read, After}
 use Rattle.epl_tree.specs.declared.statement.Stmt.{Stmt as Tree}
-use Rattle.typed_program.specs.declared.program.Program.{Program}
-use Rattle.typed_program.specs.declared.program.Site.{Site}
-use Rattle.typed_program.specs.declared.statement.Stmt.{Stmt}
-use Rattle.typed_program.specs.Programs.{names_in, global_shapes, is_there, action_so}
-use Rattle.typed_program.specs.Shapes.{stands}
-use Rattle.type_table.specs.declared.scope.Seen.{Seen}
-use Rattle.type_table.specs.declared.table.ActionHead.{ActionHead}
-use Rattle.type_table.specs.declared.table.GlobalHead.{GlobalHead}
-use Rattle.type_table.specs.declared.table.MonitorHead.{MonitorHead}
-use Rattle.type_table.specs.declared.table.ParamHead.{ParamHead}
-use Rattle.type_table.specs.declared.table.Table.{Table}
-use Rattle.type_table.specs.Scopes.{global_seen, place_in, with_global, globals_after, params_from, action_names, start_names, start_of}
+use Rattle.type_table.specs.Scopes.{place_in, with_global, action_names, start_names, start_of}
 use Rattle.type_table.specs.Table.{action_of}
-use Rattle.expr_rules.specs.Calls.{param_wants}
-use Rattle.program_laws.specs.Known.{KnowsName, KnowsAction, KnowsType, result_stands}
-use Rattle.stmt_check.specs.declared.state.State.{State}
-use Rattle.stmt_check.specs.Bodies.{Around, is_global, short, action_in}
+use Rattle.stmt_check.specs.Bodies.{is_global}
 use Rattle.stmt_check.specs.Captures.{Names as Named}
-use Rattle.stmt_check.specs.Statements.{part_of, row_read}
-use Rattle.stmt_check.specs.Steps.{After}
+use Rattle.stmt_check.specs.Statements.{part_of}
 use Rattle.program_laws.proofs.Shapes.Forms.{Good, Free}
 use Rattle.program_laws.proofs.Shapes.Frames.{Frame, World, Before, Claim, SitesHold, body_of}
 use Rattle.program_laws.proofs.Shapes.Lists.{Extends, both_true, none_isnt, get_front, get_behind, all_append, list_all_both}

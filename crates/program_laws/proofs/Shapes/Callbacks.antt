@@ -1,22 +1,10 @@
 -- A listener: its site stands at its number, and its callback holds behind the names that it takes along.
-use Rattle.std.proofs.Common.{◌≡◌, ℕ, ◌+◌, ◌≤◌, length, map, List, ◌++◌, Some, None, true, refl, ap, sym, ◌∙◌, slice_get, arith, insert}
-use Rattle.std.specs.List.{list_all}
-use Rattle.std.proofs.lemmas.Bool.{eq-eqb}
-use Rattle.std.proofs.lemmas.List.Edits.{length-insert}
-use Rattle.epl_values.specs.declared.shape.Shape.{Shape}
-use Rattle.epl_tree.specs.declared.event.EventExpr.{EventExpr}
-use Rattle.typed_program.specs.declared.program.Site.{Site}
-use Rattle.typed_program.specs.declared.program.TypedTerm.{TypedTerm}
-use Rattle.typed_program.specs.declared.statement.Stmt.{Stmt}
-use Rattle.typed_program.specs.Expressions.{if_known}
-use Rattle.typed_program.specs.Programs.{names_in, callback_params, callback_body, all_stand, is_there, site_so}
-use Rattle.typed_program.specs.Shapes.{stands}
-use Rattle.typed_program.specs.Statements.{Body, stmt_holds, listens, site_so as at_site}
-use Rattle.stmt_check.specs.declared.state.State.{State}
-use Rattle.stmt_check.specs.Bodies.{Around, in_callback, known_shape, captured_in, bound_in, callback_start, site_of, with_site, site_number}
+use Rattle.program_laws.proofs.Common.{◌≡◌, ℕ, ◌+◌, ◌≤◌, length, map, List, ◌++◌, Some, None, true, refl, ap, sym, ◌∙◌, slice_get, arith, insert, list_all, eq-eqb, length-insert, Shape, EventExpr, Site, TypedTerm, Stmt, if_known, names_in, callback_params, is_there, site_so, stands, Body, stmt_holds, State, Around, in_callback, known_shape, captured_in, bound_in, callback_start, site_of, with_site, site_number, callback_read, After}
+use Rattle.typed_program.specs.Programs.{callback_body, all_stand}
+use Rattle.typed_program.specs.Statements.{listens, site_so as at_site}
 use Rattle.stmt_check.specs.Captures.{Names as Named}
-use Rattle.stmt_check.specs.Statements.{Part, callback_read}
-use Rattle.stmt_check.specs.Steps.{After, reads_by, within}
+use Rattle.stmt_check.specs.Statements.{Part}
+use Rattle.stmt_check.specs.Steps.{reads_by, within}
 use Rattle.program_laws.proofs.Shapes.Forms.{Good, Free}
 use Rattle.program_laws.proofs.Shapes.Frames.{Frame, Before, Fits, Claim, SitesHold, names_of, body_of, sites_both}
 use Rattle.program_laws.proofs.Shapes.Lists.{extends_same, extends_insert, both_true, insert_at, list_all_both}

@@ -1,38 +1,17 @@
 -- Statements with parts, where each part is as it should be.
-use Rattle.std.proofs.Common.{◌≡◌, ℕ, suc, ◌+◌, ◌<◌, length, map, List, [], ◌∷◌, Some, None, Bool, true, false, ◌&&◌, ◌||◌, not, nat_le, Option, refl, ap, sym, ◌∙◌, slice_get, arith, option_map, IfSome}
-use Rattle.std.specs.List.{AllByRecursion}
-use Rattle.std.proofs.lemmas.Bool.{or_parts, not-false, and_parts, leb-false}
-use Rattle.span_text.specs.declared.spot.Spot.{Spot}
-use Rattle.epl_values.specs.declared.shape.Shape.{Shape, Shape-F, out-Shape}
-use Rattle.epl_values.specs.declared.shape.EventShape.{EventShape}
+use Rattle.program_laws.proofs.Common.{◌≡◌, ℕ, suc, ◌+◌, ◌<◌, length, map, List, [], ◌∷◌, Some, None, Bool, true, false, ◌&&◌, ◌||◌, not, nat_le, Option, refl, ap, sym, ◌∙◌, slice_get, arith, option_map, IfSome, AllByRecursion, or_parts, not-false, and_parts, leb-false, Spot, Shape, Shape-F, out-Shape, EventShape, EventExpr, Expr, Name, Place, TypeExpr, TypedExpr, TypedTerm, Stmt, Names, Checked, Paired, Stepping, node_so, step_so, entry_so, expr_so, link_so, suffix_so, holds, if_known, may_stand, shape_of, stands, same, is_sequence_layer, Body, stmt_holds, passes, is_local, type_found, Sequence, Target, place_found, answers, wished, term_found, State, Around, in_loop, local_read, scoped, known_shape, when, bound_in, expr_names, place_names, event_names, either, any_of, if_any, OnPart, exactly, asked, reads, row_read, block_read, other_read, if_read, while_read, for_read, turn_read, on_read, declare_on_read, assign_on_read, listen_read, callback_read, on_codes, takes_listener, target_shape}
 use Rattle.epl_values.specs.declared.shape.Shape.TheVariants as shape
 use Rattle.epl_values.specs.declared.shape.Shape.TheOpen as shape_layer
 use Rattle.epl_values.specs.declared.shape.Shape.TheViews.{roll-Shape, roll-out-Shape}
-use Rattle.epl_tree.specs.declared.event.EventExpr.{EventExpr}
-use Rattle.epl_tree.specs.declared.expression.Expr.{Expr}
-use Rattle.epl_tree.specs.declared.name.Name.{Name}
-use Rattle.epl_tree.specs.declared.statement.Place.{Place}
-use Rattle.epl_tree.specs.declared.types.TypeExpr.{TypeExpr}
-use Rattle.typed_program.specs.declared.expression.TypedExpr.{TypedExpr}
 use Rattle.typed_program.specs.declared.expression.TypedNode.TheFolds.{fold_out-TypedExpr}
-use Rattle.typed_program.specs.declared.program.TypedTerm.{TypedTerm}
-use Rattle.typed_program.specs.declared.statement.Stmt.{Stmt}
 use Rattle.typed_program.specs.declared.statement.Stmt.TheVariants as made
 use Rattle.typed_program.specs.declared.statement.Stmt.TheOpen as layer
-use Rattle.typed_program.specs.Expressions.{Names, Checked, Node, Step, Paired, Linked, Stepping, node_so, step_so, entry_so, expr_so, link_so, suffix_so, has, holds, if_known, may_stand, shape_of}
-use Rattle.typed_program.specs.Shapes.{stands, same, item_of, item_layer, is_sequence, is_sequence_layer}
-use Rattle.typed_program.specs.Statements.{Body, stmt_holds, passes, is_local, item_is, loops, site_so}
-use Rattle.type_table.specs.Types.{type_found}
+use Rattle.typed_program.specs.Expressions.{Node, Step, Linked, has}
+use Rattle.typed_program.specs.Shapes.{item_of, item_layer, is_sequence}
+use Rattle.typed_program.specs.Statements.{item_is, loops, site_so}
 use Rattle.type_table.specs.declared.scope.SeenKind.TheVariants as kind
-use Rattle.expr_rules.specs.Asked.{Sequence}
-use Rattle.expr_check.specs.declared.check.Target.{Target}
-use Rattle.expr_check.specs.Checks.{place_found}
-use Rattle.program_laws.specs.Known.{answers, wished}
-use Rattle.listener_check.specs.Terms.{term_found}
-use Rattle.stmt_check.specs.declared.state.State.{State}
-use Rattle.stmt_check.specs.Bodies.{Around, in_loop, name_read, local_read, scoped, known_shape, when, bound_in}
-use Rattle.stmt_check.specs.Captures.{expr_names, place_names, event_names, either, any_of, if_any}
-use Rattle.stmt_check.specs.Statements.{Part, OnPart, exactly, asked, reads, row_read, block_read, other_read, if_read, while_read, for_read, turn_read, on_read, declare_on_read, assign_on_read, listen_read, callback_read, on_codes, takes_listener, target_shape, is_listener, element_of, element_layer}
+use Rattle.stmt_check.specs.Bodies.{name_read}
+use Rattle.stmt_check.specs.Statements.{Part, is_listener, element_of, element_layer}
 use Rattle.stmt_check.specs.Steps.{◌>>=◌, pure, given, looks, tells}
 use Rattle.program_laws.proofs.Exprs.Accepted.{has_exact}
 use Rattle.program_laws.proofs.Exprs.Alike.{same_self}

@@ -1,27 +1,9 @@
 -- An event expression without faults has its shapes, where those visible names are known that it names.
-use Rattle.std.proofs.Common.{◌≡◌, ℕ, suc, ◌≤◌, Bool, true, ◌&&◌, List, [], ◌∷◌, map, length, drop, Option, Some, None, is_some, refl, sym, ap, ap₂, subst, ◌∙◌}
-use Rattle.std.specs.List.{AllByRecursion, list_all, find}
+use Rattle.program_laws.proofs.Common.{◌≡◌, ℕ, suc, ◌≤◌, Bool, true, ◌&&◌, List, [], ◌∷◌, map, length, drop, Option, Some, None, is_some, refl, sym, ap, ap₂, subst, ◌∙◌, AllByRecursion, list_all, find, bytes_eq, drop-append_seam, lt-ltb, bytes_eq-Decides, Shape, EventExpr, TypedExpr, Local, stands, Names, holds, shape_of, if_known, Scope, Seen, Table, local_of, local_shape, term_found, KnowsTable, KnowsName, bound_in, known_shape, event_names}
 use Rattle.std.specs.Prelude.{cond, false}
-use Rattle.std.specs.Str.{bytes_eq}
-use Rattle.std.proofs.Math.Seq.{drop-append_seam}
-use Rattle.std.proofs.lemmas.Bool.{lt-ltb}
-use Rattle.std.proofs.lemmas.Slice.Eq.{bytes_eq-Decides}
-use Rattle.epl_values.specs.declared.shape.Shape.{Shape}
 use Rattle.epl_values.specs.declared.shape.Shape.TheVariants as shape
-use Rattle.epl_tree.specs.declared.event.EventExpr.{EventExpr}
-use Rattle.typed_program.specs.declared.expression.TypedExpr.{TypedExpr}
-use Rattle.typed_program.specs.declared.program.Local.{Local}
-use Rattle.typed_program.specs.Shapes.{stands}
-use Rattle.typed_program.specs.Expressions.{Names, holds, shape_of, if_known}
-use Rattle.type_table.specs.declared.scope.Scope.{Scope}
-use Rattle.type_table.specs.declared.scope.Seen.{Seen}
-use Rattle.type_table.specs.declared.table.Table.{Table}
-use Rattle.listener_check.specs.Bound.{local_of, local_shape}
-use Rattle.listener_check.specs.Terms.{term_found}
 use Rattle.program_laws.specs.Known as known
-use Rattle.program_laws.specs.Known.{KnowsTable, KnowsName}
-use Rattle.stmt_check.specs.Bodies.{bound_in, known_shape}
-use Rattle.stmt_check.specs.Captures.{Names as Named, event_names}
+use Rattle.stmt_check.specs.Captures.{Names as Named}
 use Rattle.program_laws.proofs.Exprs.Standing.{event_stands}
 use Rattle.program_laws.proofs.Shapes.Frames.{KnowsNamed}
 use Rattle.program_laws.proofs.Shapes.Rules.{IsBound, AreBound, gives_value, TermAnswers}

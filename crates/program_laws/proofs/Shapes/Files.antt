@@ -1,23 +1,6 @@
 -- Declarations and files in order: all that is made of them holds.
-use Rattle.std.proofs.Common.{◌≡◌, ℕ, ◌≤◌, length, map, List, [], ◌∷◌, ◌++◌, Some, true, is_some, refl, ap, sym, ◌∙◌, slice_get, arith}
-use Rattle.std.specs.List.{AllByRecursion}
-use Rattle.epl_tree.specs.declared.unit.EventDecl.{EventDecl}
-use Rattle.epl_tree.specs.declared.unit.MonitorDecl.{MonitorDecl}
+use Rattle.program_laws.proofs.Common.{◌≡◌, ℕ, ◌≤◌, length, map, List, [], ◌∷◌, ◌++◌, Some, true, is_some, refl, ap, sym, ◌∙◌, slice_get, arith, AllByRecursion, EventDecl, MonitorDecl, Monitor, Program, monitor_so, action_so, Table, numbers, units_faults, units_gathered, none_gathered, names_of, number_in, EventShape, event_of, KnowsType, Made, short, members_read, monitor_of, files_faults, files_made, nothing_made}
 use Rattle.epl_tree.specs.declared.unit.Unit.{Unit as File}
-use Rattle.typed_program.specs.declared.program.Monitor.{Monitor}
-use Rattle.typed_program.specs.declared.program.Program.{Program}
-use Rattle.typed_program.specs.Programs.{monitor_so, action_so}
-use Rattle.type_table.specs.declared.table.Table.{Table}
-use Rattle.type_table.specs.Gathers.{numbers, units_faults, units_gathered, none_gathered}
-use Rattle.type_table.specs.Kinds.{names_of}
-use Rattle.type_table.specs.Names.{number_in}
-use Rattle.epl_values.specs.declared.shape.EventShape.{EventShape}
-use Rattle.type_table.specs.Table.{event_of}
-use Rattle.program_laws.specs.Known.{KnowsType}
-use Rattle.stmt_check.specs.declared.made.Made.{Made}
-use Rattle.stmt_check.specs.Bodies.{short}
-use Rattle.stmt_check.specs.Members.{members_read, monitor_of}
-use Rattle.stmt_check.specs.Programs.{files_faults, files_made, nothing_made}
 use Rattle.program_laws.proofs.Shapes.Bodies.{world_of}
 use Rattle.program_laws.proofs.Shapes.Frames.{SitesHold, sites_both, sites_none}
 use Rattle.program_laws.proofs.Shapes.Lists.{Extends, extends_same, extends_on, past, last_is, join}

@@ -1,31 +1,14 @@
 -- Statements without parts that are statements: where no fault is found, what is made of each holds.
-use Rattle.std.proofs.Common.{◌≡◌, ℕ, List, [], Some, None, Bool, true, false, not, Option, refl, ap, sym, subst, ◌∙◌, slice_get, is_some, if◌then◌else◌, IfSome}
-use Rattle.std.proofs.lemmas.Bool.{or_right, and_parts}
-use Rattle.span_text.specs.declared.spot.Spot.{Spot}
-use Rattle.epl_values.specs.declared.shape.Shape.{Shape}
-use Rattle.epl_values.specs.declared.shape.EventShape.{EventShape}
+use Rattle.program_laws.proofs.Common.{◌≡◌, ℕ, List, [], Some, None, Bool, true, false, not, Option, refl, ap, sym, subst, ◌∙◌, slice_get, is_some, if◌then◌else◌, IfSome, or_right, and_parts, Spot, Shape, EventShape, Expr, Name, Place, TypeExpr, TypedExpr, Stmt, if_known, holds, same, Body, stmt_holds, is_local, type_found, Exactly, Statement, Event, Channel, like, Target, place_found, answers, wish_stands, result_stands, State, Around, when, local_read, expr_names, optional_names, place_names, either, exactly, asked, wanted, for_place, reads, print_read, log_read, route_read, send_read, call_read, declare_read, declare_as_read, assign_read, return_read, jump_read, return_codes, target_shape, maybe_read}
 use Rattle.epl_values.specs.declared.shape.Shape.TheVariants as shape
-use Rattle.epl_tree.specs.declared.expression.Expr.{Expr}
-use Rattle.epl_tree.specs.declared.name.Name.{Name}
 use Rattle.epl_tree.specs.declared.statement.Level.{Level}
-use Rattle.epl_tree.specs.declared.statement.Place.{Place}
-use Rattle.epl_tree.specs.declared.types.TypeExpr.{TypeExpr}
-use Rattle.typed_program.specs.declared.expression.TypedExpr.{TypedExpr}
-use Rattle.typed_program.specs.declared.statement.Stmt.{Stmt}
 use Rattle.typed_program.specs.declared.statement.Stmt.TheVariants as made
 use Rattle.typed_program.specs.declared.statement.Stmt.TheOpen as layer
-use Rattle.typed_program.specs.Expressions.{has, if_known, holds}
-use Rattle.typed_program.specs.Shapes.{same}
-use Rattle.typed_program.specs.Statements.{Body, stmt_holds, is_local, returns}
-use Rattle.type_table.specs.Types.{type_found}
-use Rattle.expr_rules.specs.Asked.{Exactly, Statement, Event, Channel, like, fixing}
-use Rattle.expr_check.specs.declared.check.Target.{Target}
-use Rattle.expr_check.specs.Checks.{place_found}
-use Rattle.program_laws.specs.Known.{answers, wish_stands, result_stands}
-use Rattle.stmt_check.specs.declared.state.State.{State}
-use Rattle.stmt_check.specs.Bodies.{Around, when, name_read, local_read}
-use Rattle.stmt_check.specs.Captures.{Names as Named, expr_names, optional_names, place_names, either}
-use Rattle.stmt_check.specs.Statements.{exactly, asked, wanted, for_place, reads, print_read, log_read, route_read, send_read, call_read, declare_read, declare_as_read, assign_read, return_read, jump_read, return_codes, target_shape, maybe_read}
+use Rattle.typed_program.specs.Expressions.{has}
+use Rattle.typed_program.specs.Statements.{returns}
+use Rattle.expr_rules.specs.Asked.{fixing}
+use Rattle.stmt_check.specs.Bodies.{name_read}
+use Rattle.stmt_check.specs.Captures.{Names as Named}
 use Rattle.stmt_check.specs.Steps.{◌>>=◌, pure, given, looks, tells}
 use Rattle.type_table.specs.declared.scope.SeenKind.TheVariants as kind
 use Rattle.program_laws.proofs.Exprs.Accepted.{has_exact}

@@ -1,27 +1,9 @@
 -- A body while it is read: what its state says, what the finished program must have for it, and what then holds of a part.
-use Rattle.std.proofs.Common.{◌≡◌, ℕ, ◌+◌, ◌<◌, ◌≤◌, length, List, [], Some, true, Option, refl, sym, subst, arith, slice_get}
-use Rattle.std.specs.List.{AllByRecursion, list_all}
+use Rattle.program_laws.proofs.Common.{◌≡◌, ℕ, ◌+◌, ◌<◌, ◌≤◌, length, List, [], Some, true, Option, refl, sym, subst, arith, slice_get, AllByRecursion, list_all, inl, inr, cases_lt, Spot, Shape, Program, Site, Names, names_in, site_so, is_there, stands, Body, Scope, ActionHead, Table, Found, KnowsName, KnowsAction, KnowsType, action_named, State, captured_in, After, Reads}
 use Rattle.std.specs.Prelude.{◌⊎◌}
-use Rattle.std.proofs.Common.{inl, inr}
-use Rattle.std.proofs.lemmas.Bool.{cases_lt}
-use Rattle.span_text.specs.declared.spot.Spot.{Spot}
-use Rattle.epl_values.specs.declared.shape.Shape.{Shape}
-use Rattle.typed_program.specs.declared.program.Program.{Program}
-use Rattle.typed_program.specs.declared.program.Site.{Site}
-use Rattle.typed_program.specs.Expressions.{Names}
-use Rattle.typed_program.specs.Programs.{names_in, site_so, is_there}
-use Rattle.typed_program.specs.Shapes.{stands}
-use Rattle.typed_program.specs.Statements.{Body}
-use Rattle.type_table.specs.declared.scope.Scope.{Scope}
-use Rattle.type_table.specs.declared.table.ActionHead.{ActionHead}
-use Rattle.type_table.specs.declared.table.Table.{Table}
-use Rattle.type_table.specs.Found.{Found}
-use Rattle.program_laws.specs.Known.{KnowsName, KnowsAction, KnowsType}
-use Rattle.expr_rules.specs.Calls.{action_named}
-use Rattle.stmt_check.specs.declared.state.State.{State}
-use Rattle.stmt_check.specs.Bodies.{captured_in, action_named as head_named}
+use Rattle.stmt_check.specs.Bodies.{action_named as head_named}
 use Rattle.stmt_check.specs.Captures.{Names as Named}
-use Rattle.stmt_check.specs.Steps.{After, Reads, done, ◌>>=◌, pure, given, looks, reads_by, tells}
+use Rattle.stmt_check.specs.Steps.{done, ◌>>=◌, pure, given, looks, reads_by, tells}
 use Rattle.program_laws.proofs.Shapes.Lists.{Extends, extends_same, extends_on, no_both, no_told}
 use Rattle.program_laws.proofs.Shapes.Rising.{Rising}
 

@@ -1,25 +1,9 @@
 -- What a member leaves where no fault is found in it: its type, its parameters and its result are those of its head.
-use Rattle.std.proofs.Common.{◌≡◌, ℕ, ◌+◌, ◌<◌, ◌≤◌, length, map, List, [], ◌∷◌, ◌++◌, Some, None, true, ◌||◌, nat_le, Option, refl, ap, sym, ◌∙◌, arith, option_map}
-use Rattle.std.specs.List.{list_all, list_any}
-use Rattle.std.proofs.lemmas.List.{length-append}
-use Rattle.std.proofs.lemmas.Bool.{leb-false}
-use Rattle.epl_values.specs.declared.shape.Shape.{Shape}
-use Rattle.epl_values.specs.declared.shape.EventShape.{EventShape}
-use Rattle.epl_tree.specs.declared.types.TypeExpr.{TypeExpr}
-use Rattle.epl_tree.specs.declared.unit.Member.{Member}
-use Rattle.epl_tree.specs.declared.unit.Param.{Param}
-use Rattle.typed_program.specs.Shapes.{stands}
-use Rattle.type_table.specs.declared.fault.Fault.{Fault}
-use Rattle.type_table.specs.declared.table.Table.{Table}
-use Rattle.type_table.specs.Found.{told}
-use Rattle.type_table.specs.Heads.{param_head, result_head, result_known}
-use Rattle.type_table.specs.Table.{event_of}
-use Rattle.type_table.specs.Types.{type_found, type_by, known, known_shape}
-use Rattle.expr_rules.specs.Calls.{param_wants, result_given}
-use Rattle.program_laws.specs.Known.{gives_result, result_stands}
-use Rattle.stmt_check.specs.Actions.{param_codes, param_read, params_found, is_param_named, is_global_named}
-use Rattle.stmt_check.specs.Bodies.{when}
-use Rattle.stmt_check.specs.Steps.{After, Reads, ◌>>=◌, pure, given, tells, changes, before_all, each, optional}
+use Rattle.program_laws.proofs.Common.{◌≡◌, ℕ, ◌+◌, ◌<◌, ◌≤◌, length, map, List, [], ◌∷◌, ◌++◌, Some, None, true, ◌||◌, nat_le, Option, refl, ap, sym, ◌∙◌, arith, option_map, list_all, list_any, length-append, leb-false, Shape, EventShape, TypeExpr, Member, Param, stands, Fault, Table, told, param_head, result_head, event_of, type_found, type_by, param_wants, result_given, gives_result, result_stands, param_codes, param_read, is_param_named, is_global_named, when, After, Reads}
+use Rattle.type_table.specs.Heads.{result_known}
+use Rattle.type_table.specs.Types.{known, known_shape}
+use Rattle.stmt_check.specs.Actions.{params_found}
+use Rattle.stmt_check.specs.Steps.{◌>>=◌, pure, given, tells, changes, before_all, each, optional}
 use Rattle.program_laws.proofs.Shapes.Lists.{both_true, no_both, no_told, no_when}
 use Rattle.program_laws.proofs.Shapes.Types.{type_stands}
 

@@ -1,13 +1,10 @@
 -- Induction over statements: what each form has where its parts have it, every statement has.
-use Rattle.std.proofs.Common.{map, List, [], ◌∷◌, sym, subst}
-use Rattle.std.specs.List.{AllByRecursion}
-use Rattle.epl_tree.specs.declared.statement.Listening.{Listening}
+use Rattle.program_laws.proofs.Common.{map, List, [], ◌∷◌, sym, subst, AllByRecursion, Listening, StmtNode, StmtNode-F, Stmt-F, roll-StmtNode, roll-Stmt, fold-StmtNode, fold-Listening, fold-Stmt, fold-roll-StmtNode, fold-roll-Stmt, ind-Stmt, map-StmtNode, map-Stmt, NodePart, OnPart, node_part, on_part, stmt_part}
 use Rattle.epl_tree.specs.declared.statement.Stmt.{Stmt as Tree}
-use Rattle.epl_tree.specs.declared.statement.StmtNode.{StmtNode}
-use Rattle.epl_tree.specs.declared.statement.StmtNode.TheOpen.{StmtNode-F, Listening-F, Stmt-F}
-use Rattle.epl_tree.specs.declared.statement.StmtNode.TheViews.{roll-StmtNode, roll-Listening, roll-Stmt}
-use Rattle.epl_tree.specs.declared.statement.StmtNode.TheFolds.{fold-StmtNode, fold-Listening, fold-Stmt, fold-roll-StmtNode, fold-roll-Listening, fold-roll-Stmt, ind-Stmt, map-StmtNode, map-Listening, map-Stmt}
-use Rattle.stmt_check.specs.Statements.{Part, NodePart, OnPart, node_part, on_part, stmt_part, part_of}
+use Rattle.epl_tree.specs.declared.statement.StmtNode.TheOpen.{Listening-F}
+use Rattle.epl_tree.specs.declared.statement.StmtNode.TheViews.{roll-Listening}
+use Rattle.epl_tree.specs.declared.statement.StmtNode.TheFolds.{fold-roll-Listening, map-Listening}
+use Rattle.stmt_check.specs.Statements.{Part, part_of}
 
 abbrev pub node_at : StmtNode → NodePart
 node_at = fold-StmtNode NodePart OnPart Part node_part on_part stmt_part

@@ -1,39 +1,16 @@
 -- The event types of files without a fault: there are few, their fields stand, and no context and no listener is in them.
-use Rattle.std.proofs.Common.{◌≡◌, ℕ, ◌+◌, ◌<◌, ◌≤◌, min, length, map, List, [], ◌∷◌, ◌++◌, Some, None, Bool, true, false, ◌&&◌, ◌||◌, not, nat_le, nat_lt, if◌then◌else◌, Option, refl, ap, sym, subst, ◌∙◌, arith}
-use Rattle.std.specs.List.{AllByRecursion, list_all}
-use Rattle.std.specs.Str.{bytes_eq}
-use Rattle.std.proofs.lemmas.List.{length-append, length-map}
-use Rattle.std.proofs.lemmas.List.Quantifiers.{position-Some}
-use Rattle.std.proofs.lemmas.Bool.{or_parts, or_from, leb-false}
-use Rattle.span_text.specs.declared.spot.Spot.{Spot}
-use Rattle.epl_values.specs.declared.shape.Shape.{Shape}
-use Rattle.epl_values.specs.declared.shape.EventShape.{EventShape}
-use Rattle.epl_values.specs.declared.shape.Field.{Field}
+use Rattle.program_laws.proofs.Common.{◌≡◌, ℕ, ◌+◌, ◌<◌, ◌≤◌, min, length, map, List, [], ◌∷◌, ◌++◌, Some, None, Bool, true, false, ◌&&◌, ◌||◌, not, nat_le, nat_lt, if◌then◌else◌, Option, refl, ap, sym, subst, ◌∙◌, arith, AllByRecursion, list_all, bytes_eq, length-append, length-map, position-Some, or_parts, or_from, leb-false, Spot, Shape, EventShape, Field, fold-roll-Shape, TypeExpr, TypeNode, TypeNode-F, roll-TypeNode, roll-TypeExpr, fold-TypeNode, fold-roll-TypeNode, fold-roll-TypeExpr, ind-TypeExpr, map-TypeNode, Declaration, EventDecl, FieldDecl, Program, stands, holds_link, Gathered, met, met_node, met_step, contains_itself, Found, told, numbers, count_of, field_faults, fields_faults, event_faults, declaration_faults, faults_from, gathered_after, with_event, with_monitor, units_faults, none_gathered, event_shape, in_file, declarations_of, names_of, with_kind, kinds_after, kinds_of, has_name, Written, node_found, written_step, written_of, type_by, KnowsType}
 use Rattle.epl_values.specs.declared.shape.Shape.TheVariants as shape
 use Rattle.epl_values.specs.declared.shape.Shape.TheOpen as layer
-use Rattle.epl_values.specs.declared.shape.Shape.TheFolds.{fold-roll-Shape}
-use Rattle.epl_tree.specs.declared.types.TypeExpr.{TypeExpr}
-use Rattle.epl_tree.specs.declared.types.TypeNode.{TypeNode}
-use Rattle.epl_tree.specs.declared.types.TypeNode.TheOpen.{TypeNode-F}
 use Rattle.epl_tree.specs.declared.types.TypeNode.TheOpen as node
-use Rattle.epl_tree.specs.declared.types.TypeNode.TheViews.{roll-TypeNode, roll-TypeExpr}
-use Rattle.epl_tree.specs.declared.types.TypeNode.TheFolds.{fold-TypeNode, fold-roll-TypeNode, fold-roll-TypeExpr, ind-TypeExpr, map-TypeNode}
-use Rattle.epl_tree.specs.declared.unit.Declaration.{Declaration}
 use Rattle.epl_tree.specs.declared.unit.Declaration.TheVariants as declaration
-use Rattle.epl_tree.specs.declared.unit.EventDecl.{EventDecl}
-use Rattle.epl_tree.specs.declared.unit.FieldDecl.{FieldDecl}
 use Rattle.epl_tree.specs.declared.unit.Unit.{Unit as File}
-use Rattle.typed_program.specs.declared.program.Program.{Program}
 use Rattle.typed_program.specs.Programs.{type_so}
-use Rattle.typed_program.specs.Shapes.{stands, holds_link, meets_step}
-use Rattle.type_table.specs.declared.gathered.Gathered.{Gathered}
-use Rattle.type_table.specs.Chains.{met, met_node, met_step, leads, holds, contains_itself}
-use Rattle.type_table.specs.Found.{Found, told}
-use Rattle.type_table.specs.Gathers.{numbers, when, is_named, count_of, field_faults, fields_faults, event_faults, declaration_faults, faults_from, gathered_after, with_event, with_monitor, units_faults, none_gathered, event_shape, field_shape, in_file}
-use Rattle.type_table.specs.Kinds.{declarations_of, names_of, with_kind, kind_step, kinds_after, kinds_of}
-use Rattle.type_table.specs.Names.{has_name}
-use Rattle.type_table.specs.Types.{Written, event_shape as found_shape, node_found, written_step, written_of, type_by}
-use Rattle.program_laws.specs.Known.{KnowsType}
+use Rattle.typed_program.specs.Shapes.{meets_step}
+use Rattle.type_table.specs.Chains.{leads, holds}
+use Rattle.type_table.specs.Gathers.{when, is_named, field_shape}
+use Rattle.type_table.specs.Kinds.{kind_step}
+use Rattle.type_table.specs.Types.{event_shape as found_shape}
 use Rattle.program_laws.proofs.Shapes.Lists.{both_true, no_both, no_told, all_append, every_true, all_of_same, all_map, no_when, no_map}
 use Rattle.program_laws.proofs.Shapes.Types.{type_by_stands}
 

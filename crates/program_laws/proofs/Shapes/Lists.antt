@@ -1,13 +1,6 @@
 -- Lists place by place: what a longer list keeps of a shorter one, and what holds of each item.
-use Rattle.std.proofs.Common.{◌≡◌, ℕ, zero, suc, ◌+◌, ◌<◌, ◌≤◌, length, take, map, List, [], ◌∷◌, ◌++◌, Some, None, Bool, true, false, cond, if◌then◌else◌, ◌&&◌, refl, sym, ap, subst, ◌∙◌, arith, slice_get, insert, filter, inl, inr}
-use Rattle.std.specs.List.{AllByRecursion, list_all}
-use Rattle.std.proofs.lemmas.List.Edits.{length-insert}
-use Rattle.std.proofs.lemmas.Option.{slice_get_within}
-use Rattle.std.proofs.lemmas.Bool.{and_parts, cases_lt}
+use Rattle.program_laws.proofs.Common.{◌≡◌, ℕ, zero, suc, ◌+◌, ◌<◌, ◌≤◌, length, take, map, List, [], ◌∷◌, ◌++◌, Some, None, Bool, true, false, cond, if◌then◌else◌, ◌&&◌, refl, sym, ap, subst, ◌∙◌, arith, slice_get, insert, filter, inl, inr, AllByRecursion, list_all, length-insert, slice_get_within, and_parts, cases_lt, Spot, told, when}
 use Rattle.std.specs.Prelude.{◌⊎◌}
-use Rattle.span_text.specs.declared.spot.Spot.{Spot}
-use Rattle.type_table.specs.Found.{told}
-use Rattle.stmt_check.specs.Bodies.{when}
 
 -- ---- truths
 

@@ -1,22 +1,9 @@
 -- Names that are declared, the locals that they stand for, and what is visible behind a block.
-use Rattle.std.proofs.Common.{◌≡◌, ℕ, suc, ◌+◌, ◌<◌, ◌≤◌, length, List, [], ◌∷◌, ◌++◌, Some, None, true, not, ◌&&◌, Option, refl, sym, ap, subst, ◌∙◌, arith, slice_get, nat_le, is_some, length-append}
-use Rattle.std.specs.List.{AllByRecursion}
+use Rattle.program_laws.proofs.Common.{◌≡◌, ℕ, suc, ◌+◌, ◌<◌, ◌≤◌, length, List, [], ◌∷◌, ◌++◌, Some, None, true, not, ◌&&◌, Option, refl, sym, ap, subst, ◌∙◌, arith, slice_get, nat_le, is_some, AllByRecursion, filter-append, leb-false, Shape, EventShape, Name, Names, stands, Seen, SeenKind, told, seen_of, KnowsName, by_number, State, when, short, known_shape, local_codes, local_read, seen_local, with_local, scoped, captured_in, left, Reads}
+use Rattle.std.proofs.Common.{length-append}
 use Rattle.std.specs.Prelude.{IfSome}
-use Rattle.std.proofs.lemmas.List.Elements.{filter-append}
-use Rattle.std.proofs.lemmas.Bool.{leb-false}
-use Rattle.epl_values.specs.declared.shape.Shape.{Shape}
-use Rattle.epl_values.specs.declared.shape.EventShape.{EventShape}
-use Rattle.epl_tree.specs.declared.name.Name.{Name}
-use Rattle.typed_program.specs.Expressions.{Names}
-use Rattle.typed_program.specs.Shapes.{stands}
-use Rattle.type_table.specs.declared.scope.Seen.{Seen}
-use Rattle.type_table.specs.declared.scope.SeenKind.{SeenKind}
-use Rattle.type_table.specs.Found.{told}
-use Rattle.type_table.specs.Table.{seen_of}
-use Rattle.program_laws.specs.Known.{KnowsName, by_number}
-use Rattle.stmt_check.specs.declared.state.State.{State}
-use Rattle.stmt_check.specs.Bodies.{when, short, known_shape, local_codes, counted, name_read, local_read, seen_local, with_local, scoped, captured_in, is_global, left}
-use Rattle.stmt_check.specs.Steps.{Reads, ◌>>=◌, pure, tells, changes, within, before_all, each, optional}
+use Rattle.stmt_check.specs.Bodies.{counted, name_read, is_global}
+use Rattle.stmt_check.specs.Steps.{◌>>=◌, pure, tells, changes, within, before_all, each, optional}
 use Rattle.program_laws.proofs.Shapes.Frames.{Frame, Before, Fits, Claim, names_of, sites_none, claim_bind, claim_pure}
 use Rattle.program_laws.proofs.Shapes.Lists.{extends_same, extends_front, no_both, no_told, no_when, get_behind, all_append, all_take, list_all_both}
 use Rattle.program_laws.proofs.Shapes.Rising.{Rising, rising_both, rising_filter, rising_take}

@@ -1,22 +1,15 @@
 -- Statements that are made, and what is asked of them: the equation of each form, and what an expression's answer says there.
-use Rattle.std.proofs.Common.{◌≡◌, List, [], ◌∷◌, Some, None, Bool, true, false, Option, refl, ap, sym, ◌∙◌}
-use Rattle.std.specs.List.{AllByRecursion}
-use Rattle.std.proofs.lemmas.Bool.{and_parts}
-use Rattle.epl_values.specs.declared.shape.Shape.{Shape, Shape-F, out-Shape, roll-Shape}
+use Rattle.program_laws.proofs.Common.{◌≡◌, List, [], ◌∷◌, Some, None, Bool, true, false, Option, refl, ap, sym, ◌∙◌, AllByRecursion, and_parts, Shape, Shape-F, out-Shape, roll-Shape, TypedExpr, Stmt, Names, Checked, Paired, Stepping, node_so, step_so, entry_so, expr_so, link_so, suffix_so, if_known, checked, holds, shape_of, Body, stmt_holds, passes, Wish, Event, Channel, answers, wished}
 use Rattle.epl_values.specs.declared.shape.Shape.TheVariants as shape
 use Rattle.epl_values.specs.declared.shape.Shape.TheOpen as layer
 use Rattle.epl_values.specs.declared.shape.Shape.TheViews.{roll-out-Shape}
-use Rattle.typed_program.specs.declared.expression.TypedExpr.{TypedExpr}
 use Rattle.typed_program.specs.declared.expression.TypedNode.TheFolds.{fold_out-TypedExpr}
-use Rattle.typed_program.specs.declared.statement.Stmt.{Stmt}
 use Rattle.typed_program.specs.declared.statement.Stmt.TheOpen.{Stmt-F}
 use Rattle.typed_program.specs.declared.statement.Stmt.TheViews.{roll-Stmt}
 use Rattle.typed_program.specs.declared.statement.Stmt.TheFolds.{fold-roll-Stmt, map-Stmt}
-use Rattle.typed_program.specs.Expressions.{Names, Checked, Node, Step, Paired, Linked, Stepping, node_so, step_so, entry_so, expr_so, link_so, suffix_so, if_known, checked, holds, shape_of}
+use Rattle.typed_program.specs.Expressions.{Node, Step, Linked}
 use Rattle.typed_program.specs.Shapes.{is_event, is_channel}
-use Rattle.typed_program.specs.Statements.{Body, stmt_so, stmt_holds, row_holds, passes}
-use Rattle.expr_rules.specs.Asked.{Wish, Event, Channel}
-use Rattle.program_laws.specs.Known.{answers, wished}
+use Rattle.typed_program.specs.Statements.{stmt_so, row_holds}
 use Rattle.stmt_check.specs.Statements.{is_listener, is_listener_layer}
 use Rattle.program_laws.proofs.Shapes.Lists.{both_true}
 

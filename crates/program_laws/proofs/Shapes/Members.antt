@@ -1,35 +1,12 @@
 -- What a member makes where no fault is found in it.
-use Rattle.std.proofs.Common.{◌≡◌, ℕ, ◌≤◌, length, map, List, [], ◌∷◌, ◌++◌, Some, None, true, Option, refl, ap, sym, subst, ◌∙◌, slice_get, arith, option_map}
-use Rattle.std.specs.List.{AllByRecursion}
-use Rattle.epl_values.specs.declared.shape.Shape.{Shape}
-use Rattle.epl_values.specs.declared.shape.EventShape.{EventShape}
-use Rattle.epl_tree.specs.declared.expression.Expr.{Expr}
-use Rattle.epl_tree.specs.declared.types.TypeExpr.{TypeExpr}
-use Rattle.epl_tree.specs.declared.unit.ActionDecl.{ActionDecl}
-use Rattle.epl_tree.specs.declared.unit.GlobalDecl.{GlobalDecl}
-use Rattle.epl_tree.specs.declared.unit.Member.{Member}
-use Rattle.typed_program.specs.declared.expression.TypedExpr.{TypedExpr}
-use Rattle.typed_program.specs.declared.program.Action.{Action}
-use Rattle.typed_program.specs.declared.program.Global.{Global}
-use Rattle.typed_program.specs.declared.program.Program.{Program}
-use Rattle.typed_program.specs.declared.program.Site.{Site}
-use Rattle.typed_program.specs.Programs.{no_names, action_so, initial_so, global_so}
-use Rattle.typed_program.specs.Shapes.{stands}
-use Rattle.type_table.specs.declared.table.Table.{Table}
-use Rattle.type_table.specs.Found.{told}
+use Rattle.program_laws.proofs.Common.{◌≡◌, ℕ, ◌≤◌, length, map, List, [], ◌∷◌, ◌++◌, Some, None, true, Option, refl, ap, sym, subst, ◌∙◌, slice_get, arith, option_map, AllByRecursion, Shape, EventShape, Expr, TypeExpr, ActionDecl, GlobalDecl, Member, TypedExpr, Action, Global, Program, Site, action_so, global_so, stands, Table, told, event_of, type_found, expr_found, KnowsType, Made, action_read, action_of, actions_before, body_around, body_start, short, expr_names, global_codes, global_read, with_global, exactly, row_read, Reads}
+use Rattle.typed_program.specs.Programs.{no_names, initial_so}
 use Rattle.type_table.specs.Heads.{action_head}
 use Rattle.type_table.specs.Scopes.{start_of}
-use Rattle.type_table.specs.Table.{event_of}
-use Rattle.type_table.specs.Types.{type_found}
-use Rattle.expr_check.specs.Expressions.{expr_found}
-use Rattle.program_laws.specs.Known.{KnowsType}
-use Rattle.stmt_check.specs.declared.made.Made.{Made}
-use Rattle.stmt_check.specs.Actions.{action_codes, action_read, action_of, actions_before, body_around, body_start, body_end, body_read, params_found}
-use Rattle.stmt_check.specs.Bodies.{short}
-use Rattle.stmt_check.specs.Captures.{expr_names}
-use Rattle.stmt_check.specs.Members.{global_codes, global_read, initial_read, with_global}
-use Rattle.stmt_check.specs.Statements.{exactly, part_of, row_read}
-use Rattle.stmt_check.specs.Steps.{Reads, ◌>>=◌, pure, given, looks, tells, changes, reads_by, within, optional}
+use Rattle.stmt_check.specs.Actions.{action_codes, body_end, body_read, params_found}
+use Rattle.stmt_check.specs.Members.{initial_read}
+use Rattle.stmt_check.specs.Statements.{part_of}
+use Rattle.stmt_check.specs.Steps.{◌>>=◌, pure, given, looks, tells, changes, reads_by, within, optional}
 use Rattle.program_laws.proofs.Exprs.Accepted.{has_exact}
 use Rattle.program_laws.proofs.Shapes.Bodies.{HeadsKnown, Acting, action_holds, body_sites}
 use Rattle.program_laws.proofs.Shapes.Frames.{KnowsNamed, World, SitesHold}

@@ -1,26 +1,8 @@
 -- The members of a monitor in order, where its heads are known: its globals, its actions and their sites are as they should be.
-use Rattle.std.proofs.Common.{◌≡◌, ℕ, suc, ◌+◌, ◌<◌, ◌≤◌, length, List, [], ◌∷◌, ◌++◌, Some, true, cond, not, refl, ap, sym, subst, ◌∙◌, slice_get, arith, append_assoc}
-use Rattle.std.specs.List.{AllByRecursion}
-use Rattle.std.proofs.lemmas.List.Sums.{sum_by-cons}
-use Rattle.epl_tree.specs.declared.unit.ActionDecl.{ActionDecl}
-use Rattle.epl_tree.specs.declared.unit.GlobalDecl.{GlobalDecl}
-use Rattle.epl_tree.specs.declared.unit.Member.{Member}
+use Rattle.program_laws.proofs.Common.{◌≡◌, ℕ, suc, ◌+◌, ◌<◌, ◌≤◌, length, List, [], ◌∷◌, ◌++◌, Some, true, cond, not, refl, ap, sym, subst, ◌∙◌, slice_get, arith, append_assoc, AllByRecursion, sum_by-cons, ActionDecl, GlobalDecl, Member, Action, Global, Program, Site, action_so, global_so, ActionHead, Table, actions_from, event_of, type_found, KnowsType, Made, action_read, actions_before, short, global_read, members_read}
 use Rattle.epl_tree.specs.declared.unit.Member.TheVariants as member
-use Rattle.typed_program.specs.declared.program.Action.{Action}
-use Rattle.typed_program.specs.declared.program.Global.{Global}
-use Rattle.typed_program.specs.declared.program.Program.{Program}
-use Rattle.typed_program.specs.declared.program.Site.{Site}
-use Rattle.typed_program.specs.Programs.{action_so, global_so}
-use Rattle.type_table.specs.declared.table.ActionHead.{ActionHead}
-use Rattle.type_table.specs.declared.table.Table.{Table}
-use Rattle.type_table.specs.Heads.{action_head, actions_from}
-use Rattle.type_table.specs.Table.{event_of}
-use Rattle.type_table.specs.Types.{type_found}
-use Rattle.program_laws.specs.Known.{KnowsType}
-use Rattle.stmt_check.specs.declared.made.Made.{Made}
-use Rattle.stmt_check.specs.Actions.{action_read, actions_before, is_global}
-use Rattle.stmt_check.specs.Bodies.{short}
-use Rattle.stmt_check.specs.Members.{global_read, members_read}
+use Rattle.type_table.specs.Heads.{action_head}
+use Rattle.stmt_check.specs.Actions.{is_global}
 use Rattle.stmt_check.specs.Steps.{◌>>=◌, pure}
 use Rattle.program_laws.proofs.Shapes.Bodies.{HeadsKnown}
 use Rattle.program_laws.proofs.Shapes.Frames.{World, SitesHold, sites_both, sites_none}

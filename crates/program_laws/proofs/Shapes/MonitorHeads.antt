@@ -1,35 +1,9 @@
 -- The members of a monitor in order: each head stands for the action or the global that is made for it.
-use Rattle.std.proofs.Common.{◌≡◌, ℕ, zero, suc, ◌+◌, ◌<◌, ◌≤◌, ◌==◌, min, length, map, List, [], ◌∷◌, ◌++◌, Some, None, Bool, true, false, cond, ◌&&◌, ◌||◌, not, nat_le, is_some, Option, refl, ap, sym, subst, ◌∙◌, slice_get, arith}
-use Rattle.std.specs.List.{list_all}
-use Rattle.std.proofs.lemmas.Bool.Decides.{nat_tests}
-use Rattle.std.proofs.lemmas.List.Sums.{sum_by-append}
-use Rattle.std.proofs.lemmas.List.{length-append}
-use Rattle.std.proofs.lemmas.Bool.{or_parts, leb-false}
-use Rattle.epl_values.specs.declared.shape.Shape.{Shape}
-use Rattle.epl_values.specs.declared.shape.EventShape.{EventShape}
-use Rattle.epl_tree.specs.declared.types.TypeExpr.{TypeExpr}
-use Rattle.epl_tree.specs.declared.unit.ActionDecl.{ActionDecl}
-use Rattle.epl_tree.specs.declared.unit.GlobalDecl.{GlobalDecl}
-use Rattle.epl_tree.specs.declared.unit.Member.{Member}
+use Rattle.program_laws.proofs.Common.{◌≡◌, ℕ, zero, suc, ◌+◌, ◌<◌, ◌≤◌, ◌==◌, min, length, map, List, [], ◌∷◌, ◌++◌, Some, None, Bool, true, false, cond, ◌&&◌, ◌||◌, not, nat_le, is_some, Option, refl, ap, sym, subst, ◌∙◌, slice_get, arith, list_all, nat_tests, sum_by-append, length-append, or_parts, leb-false, Shape, EventShape, TypeExpr, ActionDecl, GlobalDecl, Member, TypedExpr, Action, Global, stands, ActionHead, GlobalHead, Table, actions_from, globals_in, result_head, event_of, type_found, param_wants, result_given, gives_result, result_stands, Made, action_of, action_read, body_around, body_start, actions_before, member_codes, when, short, is_special, ends_with_return, global_codes, global_read, members_read, with_global, row_read}
 use Rattle.epl_tree.specs.declared.unit.Member.TheVariants as member
-use Rattle.typed_program.specs.declared.expression.TypedExpr.{TypedExpr}
-use Rattle.typed_program.specs.declared.program.Action.{Action}
-use Rattle.typed_program.specs.declared.program.Global.{Global}
-use Rattle.typed_program.specs.Shapes.{stands}
-use Rattle.type_table.specs.declared.table.ActionHead.{ActionHead}
-use Rattle.type_table.specs.declared.table.GlobalHead.{GlobalHead}
-use Rattle.type_table.specs.declared.table.Table.{Table}
-use Rattle.type_table.specs.Heads.{action_head, global_head, actions_from, globals_in, result_head}
-use Rattle.type_table.specs.Table.{event_of}
-use Rattle.type_table.specs.Types.{type_found}
-use Rattle.expr_rules.specs.Calls.{param_wants, result_given}
-use Rattle.program_laws.specs.Known.{gives_result, result_stands}
-use Rattle.stmt_check.specs.declared.made.Made.{Made}
-use Rattle.stmt_check.specs.Actions.{action_codes, action_of, action_read, body_around, body_start, actions_before, globals_before, is_global, member_codes}
-use Rattle.stmt_check.specs.Bodies.{when, short, is_special}
-use Rattle.stmt_check.specs.Endings.{ends_with_return}
-use Rattle.stmt_check.specs.Members.{global_codes, global_read, members_read, with_global}
-use Rattle.stmt_check.specs.Statements.{part_of, row_read}
+use Rattle.type_table.specs.Heads.{action_head, global_head}
+use Rattle.stmt_check.specs.Actions.{action_codes, globals_before, is_global}
+use Rattle.stmt_check.specs.Statements.{part_of}
 use Rattle.stmt_check.specs.Steps.{◌>>=◌, pure}
 use Rattle.program_laws.proofs.Shapes.Heads.{type_known}
 use Rattle.program_laws.proofs.Shapes.Lists.{Extends, extends_same, extends_on, extends_front, no_both, no_when, none_isnt, get_behind}

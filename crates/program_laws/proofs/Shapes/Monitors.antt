@@ -1,30 +1,13 @@
 -- A monitor: its heads are known in the finished program, and it is as it should be.
-use Rattle.std.proofs.Common.{◌≡◌, ℕ, zero, suc, ◌+◌, ◌<◌, ◌==◌, min, length, List, [], ◌∷◌, Some, None, Bool, true, false, cond, if◌then◌else◌, ◌&&◌, ◌||◌, not, is_some, Option, refl, ap, sym, ◌∙◌, slice_get, get_or, arith, codes, position, nat_lt}
-use Rattle.std.specs.List.{list_any, position_or_len}
-use Rattle.std.proofs.lemmas.Bool.Decides.{nat_tests}
-use Rattle.std.specs.Str.{bytes_eq}
-use Rattle.std.proofs.lemmas.List.Quantifiers.{position-Some}
-use Rattle.std.proofs.lemmas.Option.{get_or_from_slice_get}
-use Rattle.std.proofs.lemmas.Bool.{ltb-true, eq-eqb}
-use Rattle.epl_values.specs.declared.shape.Shape.{Shape}
-use Rattle.epl_tree.specs.declared.unit.Member.{Member}
+use Rattle.program_laws.proofs.Common.{◌≡◌, ℕ, zero, suc, ◌+◌, ◌<◌, ◌==◌, min, length, List, [], ◌∷◌, Some, None, Bool, true, false, cond, if◌then◌else◌, ◌&&◌, ◌||◌, not, is_some, Option, refl, ap, sym, ◌∙◌, slice_get, get_or, arith, codes, nat_lt, list_any, position_or_len, nat_tests, bytes_eq, position-Some, get_or_from_slice_get, eq-eqb, Shape, Member, MonitorDecl, Global, Monitor, Program, if_known, names_in, global_shapes, global_so, monitor_so, ActionHead, GlobalHead, MonitorHead, Table, actions_from, has_onload, event_of, KnowsAction, Made, short, action_in, is_special, action_number, or_zero, monitor_of}
+use Rattle.std.proofs.Common.{position}
+use Rattle.std.proofs.lemmas.Bool.{ltb-true}
 use Rattle.epl_tree.specs.declared.unit.Member.TheVariants as member
-use Rattle.epl_tree.specs.declared.unit.MonitorDecl.{MonitorDecl}
-use Rattle.typed_program.specs.declared.program.Global.{Global}
-use Rattle.typed_program.specs.declared.program.Monitor.{Monitor}
-use Rattle.typed_program.specs.declared.program.Program.{Program}
-use Rattle.typed_program.specs.Expressions.{if_known}
-use Rattle.typed_program.specs.Programs.{names_in, global_shapes, global_so, is_plain, runs_plain, ends_plain, monitor_so}
-use Rattle.type_table.specs.declared.table.ActionHead.{ActionHead}
-use Rattle.type_table.specs.declared.table.GlobalHead.{GlobalHead}
-use Rattle.type_table.specs.declared.table.MonitorHead.{MonitorHead}
-use Rattle.type_table.specs.declared.table.Table.{Table}
-use Rattle.type_table.specs.Heads.{monitor_head, actions_from, has_onload}
-use Rattle.type_table.specs.Table.{event_of, action_of}
-use Rattle.program_laws.specs.Known.{KnowsAction}
-use Rattle.stmt_check.specs.declared.made.Made.{Made}
-use Rattle.stmt_check.specs.Bodies.{short, action_in, action_named, is_special}
-use Rattle.stmt_check.specs.Members.{action_number, number_of, or_zero, monitor_of}
+use Rattle.typed_program.specs.Programs.{is_plain, runs_plain, ends_plain}
+use Rattle.type_table.specs.Heads.{monitor_head}
+use Rattle.type_table.specs.Table.{action_of}
+use Rattle.stmt_check.specs.Bodies.{action_named}
+use Rattle.stmt_check.specs.Members.{number_of}
 use Rattle.program_laws.proofs.Shapes.Bodies.{HeadsKnown, GlobalKnown}
 use Rattle.program_laws.proofs.Shapes.Lists.{Extends, both_true, every_true, all_by_place, none_isnt}
 use Rattle.program_laws.proofs.Shapes.MonitorBodies.{MembersHold}

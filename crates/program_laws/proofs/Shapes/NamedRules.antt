@@ -1,8 +1,5 @@
 -- What expressions, places, arguments and event expressions without faults answer, where those names are known that they name.
-use Rattle.std.proofs.Common.{false}
-use Rattle.typed_program.specs.Expressions.{Names}
-use Rattle.expr_check.specs.declared.check.Target.{Target}
-use Rattle.expr_check.specs.Checks.{place_found}
+use Rattle.program_laws.proofs.Common.{false, Names, Target, place_found}
 use Rattle.program_laws.proofs.Exprs.Accepted.{named_expression_answers, named_place_answers, named_arguments_answer}
 use Rattle.program_laws.proofs.Exprs.Walks.{TargetAnswers}
 use Rattle.program_laws.proofs.Shapes.Events.{table_known, names_known, term_answers}

@@ -1,18 +1,7 @@
 -- The names that are visible where a callback begins: the captured ones at their places, and the bound ones behind them.
-use Rattle.std.proofs.Common.{◌≡◌, ℕ, zero, suc, ◌+◌, ◌≤◌, length, map, List, [], ◌∷◌, ◌++◌, Some, Bool, true, false, cond, if◌then◌else◌, ◌&&◌, not, Option, refl, ap, sym, subst, ◌∙◌, slice_get, arith, filter}
-use Rattle.std.specs.List.{AllByRecursion}
-use Rattle.std.proofs.lemmas.Option.{slice_get_within}
-use Rattle.std.proofs.lemmas.List.{length-map}
-use Rattle.epl_values.specs.declared.shape.Shape.{Shape}
-use Rattle.epl_values.specs.declared.shape.EventShape.{EventShape}
-use Rattle.typed_program.specs.declared.program.Program.{Program}
-use Rattle.typed_program.specs.Expressions.{Names}
-use Rattle.typed_program.specs.Programs.{names_in}
-use Rattle.type_table.specs.declared.scope.Seen.{Seen}
-use Rattle.type_table.specs.declared.scope.SeenKind.{SeenKind}
+use Rattle.program_laws.proofs.Common.{◌≡◌, ℕ, zero, suc, ◌+◌, ◌≤◌, length, map, List, [], ◌∷◌, ◌++◌, Some, Bool, true, false, cond, if◌then◌else◌, ◌&&◌, not, Option, refl, ap, sym, subst, ◌∙◌, slice_get, arith, filter, AllByRecursion, slice_get_within, length-map, Shape, EventShape, Program, Names, names_in, Seen, SeenKind, KnowsName, by_number, captured_in, outer_kind, bound_seen, place_among, short, known_shape}
 use Rattle.type_table.specs.declared.scope.SeenKind.TheVariants as kind
-use Rattle.program_laws.specs.Known.{KnowsName, by_number}
-use Rattle.stmt_check.specs.Bodies.{is_global, captured_in, outer_kind, outer_seen, bound_seen, place_among, short, known_shape}
+use Rattle.stmt_check.specs.Bodies.{is_global, outer_seen}
 use Rattle.stmt_check.specs.Captures.{Names as Named}
 use Rattle.program_laws.proofs.Shapes.Lists.{get_front, get_behind, none_isnt}
 use Rattle.program_laws.proofs.Shapes.Rising.{Rising, Places, place_at, rising_below, rising_above}

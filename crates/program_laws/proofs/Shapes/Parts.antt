@@ -1,11 +1,7 @@
 -- What is asked of a part of a body: it holds in each finished body that fits, wherever it is read.
-use Rattle.std.proofs.Common.{◌≡◌, ℕ, List, Bool, true}
-use Rattle.span_text.specs.declared.spot.Spot.{Spot}
-use Rattle.epl_values.specs.declared.shape.Shape.{Shape}
+use Rattle.program_laws.proofs.Common.{◌≡◌, ℕ, List, Bool, true, Spot, Shape, State, Around, NodePart, OnPart}
 use Rattle.typed_program.specs.Statements.{site_so}
-use Rattle.stmt_check.specs.declared.state.State.{State}
-use Rattle.stmt_check.specs.Bodies.{Around}
-use Rattle.stmt_check.specs.Statements.{Part, NodePart, OnPart}
+use Rattle.stmt_check.specs.Statements.{Part}
 use Rattle.program_laws.proofs.Shapes.Forms.{Good, Free}
 use Rattle.program_laws.proofs.Shapes.Frames.{Frame, Claim, body_of}
 use Rattle.program_laws.proofs.Shapes.Reading.{Fitting, Within}

@@ -1,27 +1,12 @@
 -- Declarations and files in order, and what holds of all that is made of them: what is gathered and what is made keep pace, and each monitor stands in the finished program.
-use Rattle.std.proofs.Common.{◌≡◌, ℕ, ◌+◌, ◌<◌, ◌≤◌, length, map, List, [], ◌∷◌, ◌++◌, Some, true, not, nat_le, Option, refl, ap, sym, subst, ◌∙◌, slice_get, arith}
-use Rattle.std.proofs.lemmas.Bool.{not-false, leb-false}
-use Rattle.std.proofs.lemmas.List.{length-append}
-use Rattle.epl_tree.specs.declared.unit.Declaration.{Declaration}
+use Rattle.program_laws.proofs.Common.{◌≡◌, ℕ, ◌+◌, ◌<◌, ◌≤◌, length, map, List, [], ◌∷◌, ◌++◌, Some, true, not, nat_le, Option, refl, ap, sym, subst, ◌∙◌, slice_get, arith, not-false, leb-false, length-append, Declaration, EventDecl, MonitorDecl, Action, Monitor, Program, Fault, Gathered, MonitorHead, Table, numbers, with_event, with_monitor, monitor_faults, declaration_faults, faults_from, gathered_after, units_faults, units_gathered, none_gathered, in_file, actions_from, has_onload, has_name, event_of, Made, members_read, monitor_of, declarations_read, file_made, files_faults, files_made, nothing_made}
 use Rattle.epl_tree.specs.declared.unit.Declaration.TheVariants as declaration
-use Rattle.epl_tree.specs.declared.unit.EventDecl.{EventDecl}
-use Rattle.epl_tree.specs.declared.unit.MonitorDecl.{MonitorDecl}
 use Rattle.epl_tree.specs.declared.unit.Unit.{Unit as File}
-use Rattle.typed_program.specs.declared.program.Action.{Action}
-use Rattle.typed_program.specs.declared.program.Monitor.{Monitor}
-use Rattle.typed_program.specs.declared.program.Program.{Program}
 use Rattle.type_table.specs.declared.fault.CheckFault.TheVariants as check
-use Rattle.type_table.specs.declared.fault.Fault.{Fault}
-use Rattle.type_table.specs.declared.gathered.Gathered.{Gathered}
-use Rattle.type_table.specs.declared.table.MonitorHead.{MonitorHead}
-use Rattle.type_table.specs.declared.table.Table.{Table}
-use Rattle.type_table.specs.Gathers.{numbers, with_event, with_monitor, when, monitor_faults, declaration_faults, faults_from, gathered_after, units_faults, units_gathered, none_gathered, in_file}
-use Rattle.type_table.specs.Heads.{monitor_head, actions_from, has_onload}
-use Rattle.type_table.specs.Names.{has_name}
-use Rattle.type_table.specs.Table.{event_of}
-use Rattle.stmt_check.specs.declared.made.Made.{Made}
-use Rattle.stmt_check.specs.Members.{members_read, monitor_of, monitor_read, with_monitor as made_monitor}
-use Rattle.stmt_check.specs.Programs.{declarations_read, file_made, files_faults, files_made, nothing_made, in_file as faults_in}
+use Rattle.type_table.specs.Gathers.{when}
+use Rattle.type_table.specs.Heads.{monitor_head}
+use Rattle.stmt_check.specs.Members.{monitor_read, with_monitor as made_monitor}
+use Rattle.stmt_check.specs.Programs.{in_file as faults_in}
 use Rattle.stmt_check.specs.Steps.{◌>>=◌, pure, changes}
 use Rattle.program_laws.proofs.Shapes.Lists.{Extends, extends_same, extends_on, extends_front, no_both, no_told, no_when, get_behind, no_map}
 use Rattle.program_laws.proofs.Shapes.MonitorHeads.{MembersMade, members_made}

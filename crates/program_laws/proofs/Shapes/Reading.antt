@@ -1,26 +1,10 @@
 -- Expressions, places and arguments where a body is read: what is known there, and what they answer.
-use Rattle.std.proofs.Common.{◌≡◌, ℕ, length, map, List, Some, None, Bool, true, false, if◌then◌else◌, Option, refl, ap, sym, ◌∙◌, slice_get, arith, option_map, is_some, IfSome}
-use Rattle.std.specs.List.{list_all}
-use Rattle.epl_values.specs.declared.shape.Shape.{Shape}
-use Rattle.epl_tree.specs.declared.expression.Expr.{Expr}
-use Rattle.epl_tree.specs.declared.statement.Place.{Place}
-use Rattle.typed_program.specs.Expressions.{have}
-use Rattle.typed_program.specs.Shapes.{stands}
-use Rattle.type_table.specs.declared.scope.Scope.{Scope}
-use Rattle.type_table.specs.declared.table.MonitorHead.{MonitorHead}
-use Rattle.type_table.specs.declared.table.ParamHead.{ParamHead}
-use Rattle.type_table.specs.declared.table.Table.{Table}
+use Rattle.program_laws.proofs.Common.{◌≡◌, ℕ, length, map, List, Some, None, Bool, true, false, if◌then◌else◌, Option, refl, ap, sym, ◌∙◌, slice_get, arith, option_map, is_some, IfSome, list_all, Shape, Expr, Place, have, stands, Scope, MonitorHead, ParamHead, Table, Demand, action_named, typed_arguments, param_wants, item_at, place_found, expr_found, answers, wish_stands, result_stands, State, Around, action_in, expr_names, place_names, exprs_name, optional_names, reads, args_read, maybe_read}
 use Rattle.type_table.specs.Table.{action_of}
-use Rattle.expr_rules.specs.Asked.{Demand}
-use Rattle.expr_rules.specs.Calls.{action_named, action_in as head_in, typed_arguments, param_wants}
-use Rattle.expr_rules.specs.Names.{item_at}
-use Rattle.expr_check.specs.Checks.{place_found}
-use Rattle.expr_check.specs.Expressions.{expr_found, part_of as expr_part}
-use Rattle.program_laws.specs.Known.{answers, wish_stands, result_stands}
-use Rattle.stmt_check.specs.declared.state.State.{State}
-use Rattle.stmt_check.specs.Bodies.{Around, action_in, action_named as head_named}
-use Rattle.stmt_check.specs.Captures.{Names as Named, expr_names, place_names, exprs_name, optional_names}
-use Rattle.stmt_check.specs.Statements.{reads, args_read, maybe_read}
+use Rattle.expr_rules.specs.Calls.{action_in as head_in}
+use Rattle.expr_check.specs.Expressions.{part_of as expr_part}
+use Rattle.stmt_check.specs.Bodies.{action_named as head_named}
+use Rattle.stmt_check.specs.Captures.{Names as Named}
 use Rattle.stmt_check.specs.Steps.{looks}
 use Rattle.program_laws.proofs.Shapes.Frames.{Frame, World, KnowsNamed, Before, Claim, names_of, claim_looks, claim_as}
 use Rattle.program_laws.proofs.Shapes.Lists.{all_of_same}

@@ -1,11 +1,6 @@
 -- Visible names in ascending order of their numbers: those that a callback takes along, and their places among these.
-use Rattle.std.proofs.Common.{◌≡◌, ℕ, zero, suc, ◌+◌, ◌<◌, ◌≤◌, drop, take, List, [], ◌∷◌, ◌++◌, Some, Bool, true, false, cond, refl, sym, ap, subst, ◌∙◌, arith, nat_lt, slice_get, filter}
-use Rattle.std.proofs.lemmas.List.{take-append-drop}
-use Rattle.std.proofs.lemmas.List.Elements.{filter-append}
-use Rattle.std.proofs.lemmas.List.Sums.{sum_by-cons}
-use Rattle.std.proofs.lemmas.Bool.{lt-ltb, le-ltb}
-use Rattle.type_table.specs.declared.scope.Seen.{Seen}
-use Rattle.stmt_check.specs.Bodies.{place_among}
+use Rattle.program_laws.proofs.Common.{◌≡◌, ℕ, zero, suc, ◌+◌, ◌<◌, ◌≤◌, drop, take, List, [], ◌∷◌, ◌++◌, Some, Bool, true, false, cond, refl, sym, ap, subst, ◌∙◌, arith, nat_lt, slice_get, filter, take-append-drop, filter-append, sum_by-cons, lt-ltb, Seen, place_among}
+use Rattle.std.proofs.lemmas.Bool.{le-ltb}
 use Rattle.program_laws.proofs.Shapes.Lists.{none_isnt}
 
 -- numbers that rise from this one on, and end below that one

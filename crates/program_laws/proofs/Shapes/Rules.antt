@@ -1,31 +1,8 @@
 -- What expressions, places, arguments and event expressions answer where no fault is found in them.
-use Rattle.std.proofs.Common.{◌≡◌, ℕ, suc, ◌≤◌, length, map, List, [], ◌∷◌, Some, Bool, true, false, ◌&&◌}
-use Rattle.std.specs.List.{list_all}
-use Rattle.epl_values.specs.declared.shape.EventShape.{EventShape}
-use Rattle.epl_values.specs.declared.shape.Shape.{Shape}
-use Rattle.epl_tree.specs.declared.event.EventExpr.{EventExpr}
-use Rattle.epl_tree.specs.declared.expression.Expr.{Expr}
-use Rattle.epl_tree.specs.declared.statement.Place.{Place}
-use Rattle.typed_program.specs.declared.expression.TypedExpr.{TypedExpr}
-use Rattle.typed_program.specs.declared.program.TypedTerm.{TypedTerm}
-use Rattle.typed_program.specs.Expressions.{Names, if_known, holds, have, shape_of, walks, stepping}
-use Rattle.typed_program.specs.Shapes.{stands}
-use Rattle.typed_program.specs.Statements.{variable_shape}
-use Rattle.typed_program.specs.Terms.{Around, fits_term}
-use Rattle.type_table.specs.declared.scope.Scope.{Scope}
-use Rattle.type_table.specs.declared.scope.Seen.{Seen}
+use Rattle.program_laws.proofs.Common.{◌≡◌, ℕ, suc, ◌≤◌, length, map, List, [], ◌∷◌, Some, Bool, true, false, ◌&&◌, list_all, EventShape, Shape, EventExpr, Expr, Place, TypedExpr, TypedTerm, Names, if_known, holds, have, shape_of, walks, stepping, stands, variable_shape, fits_term, Scope, Seen, ParamHead, Table, Demand, typed_arguments, param_wants, Target, place_found, expr_found, answers, wish_stands, term_found, bound_in, known_shape, expr_names, place_names, event_names, exprs_name}
+use Rattle.typed_program.specs.Terms.{Around}
 use Rattle.type_table.specs.declared.scope.SeenKind.TheVariants as kind
-use Rattle.type_table.specs.declared.table.ParamHead.{ParamHead}
-use Rattle.type_table.specs.declared.table.Table.{Table}
-use Rattle.expr_rules.specs.Asked.{Demand}
-use Rattle.expr_rules.specs.Calls.{typed_arguments, param_wants}
-use Rattle.expr_check.specs.declared.check.Target.{Target}
-use Rattle.expr_check.specs.Checks.{place_found}
-use Rattle.expr_check.specs.Expressions.{expr_found, part_of as expr_part}
-use Rattle.program_laws.specs.Known.{answers, wish_stands}
-use Rattle.listener_check.specs.Terms.{term_found}
-use Rattle.stmt_check.specs.Bodies.{bound_in, known_shape}
-use Rattle.stmt_check.specs.Captures.{expr_names, place_names, event_names, exprs_name}
+use Rattle.expr_check.specs.Expressions.{part_of as expr_part}
 use Rattle.program_laws.proofs.Shapes.Frames.{KnowsNamed}
 
 -- what is assigned has a shape, and its steps lead there

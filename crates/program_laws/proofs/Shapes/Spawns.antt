@@ -1,27 +1,13 @@
 -- `spawn` and the calls of a monitor: where no fault is found, the action is there and takes what it is given.
-use Rattle.std.proofs.Common.{◌≡◌, ℕ, length, map, List, [], ◌∷◌, Some, None, Bool, true, false, ◌||◌, not, ◌==◌, Option, refl, ap, sym, ◌∙◌, slice_get, is_some, IfSome}
-use Rattle.std.specs.List.{list_all}
-use Rattle.std.proofs.lemmas.Bool.{not-false, eqb-true, eq-eqb}
-use Rattle.span_text.specs.declared.spot.Spot.{Spot}
-use Rattle.epl_values.specs.declared.shape.Shape.{Shape}
+use Rattle.program_laws.proofs.Common.{◌≡◌, ℕ, length, map, List, [], ◌∷◌, Some, None, Bool, true, false, ◌||◌, not, ◌==◌, Option, refl, ap, sym, ◌∙◌, slice_get, is_some, IfSome, list_all, not-false, eqb-true, eq-eqb, Spot, Shape, Expr, TypedExpr, have, if_known, stands, stmt_holds, ActionHead, Exactly, param_wants, result_given, KnowsAction, answers, gives_result, State, Around, when, is_special, expr_names, exprs_name, optional_names, either, any_of, exactly, reads, args_read, maybe_read, begun_read, spawned_read, spawn_read, spawn_codes, has_result, control, control_codes, channel_read, monitor_read, is_subscribe}
 use Rattle.epl_values.specs.declared.shape.Shape.TheVariants as shape
-use Rattle.epl_tree.specs.declared.expression.Expr.{Expr}
-use Rattle.typed_program.specs.declared.expression.TypedExpr.{TypedExpr}
 use Rattle.typed_program.specs.declared.statement.Stmt.TheVariants as made
 use Rattle.typed_program.specs.declared.statement.Stmt.TheOpen as layer
-use Rattle.typed_program.specs.Expressions.{has, have, if_known}
-use Rattle.typed_program.specs.Shapes.{stands}
-use Rattle.typed_program.specs.Statements.{stmt_holds, begins, goes_to}
-use Rattle.type_table.specs.declared.table.ActionHead.{ActionHead}
+use Rattle.typed_program.specs.Expressions.{has}
+use Rattle.typed_program.specs.Statements.{begins, goes_to}
 use Rattle.type_table.specs.declared.table.ResultHead.{ResultHead}
 use Rattle.type_table.specs.declared.table.ResultHead.TheVariants as result
-use Rattle.expr_rules.specs.Asked.{Exactly}
-use Rattle.expr_rules.specs.Calls.{param_wants, result_given}
-use Rattle.program_laws.specs.Known.{KnowsAction, answers, gives_result}
-use Rattle.stmt_check.specs.declared.state.State.{State}
-use Rattle.stmt_check.specs.Bodies.{Around, when, action_named, is_special}
-use Rattle.stmt_check.specs.Captures.{expr_names, exprs_name, optional_names, either, any_of}
-use Rattle.stmt_check.specs.Statements.{exactly, reads, args_read, maybe_read, begun_read, spawned_read, spawn_read, spawn_codes, has_result, control, control_codes, channel_read, monitor_read, is_subscribe}
+use Rattle.stmt_check.specs.Bodies.{action_named}
 use Rattle.stmt_check.specs.Steps.{◌>>=◌, pure, tells}
 use Rattle.program_laws.proofs.Exprs.Accepted.{has_exact}
 use Rattle.program_laws.proofs.Exprs.Standing.{text_stands, context_stands}

@@ -1,23 +1,9 @@
 -- Where a callback begins: what its state says there, and what its site takes along.
-use Rattle.std.proofs.Common.{◌≡◌, ℕ, suc, ◌+◌, ◌≤◌, length, map, List, [], ◌∷◌, ◌++◌, Some, None, Bool, true, false, ◌&&◌, not, Option, refl, ap, sym, subst, ◌∙◌, slice_get, arith, length-append}
-use Rattle.std.specs.List.{AllByRecursion, list_all}
-use Rattle.std.proofs.lemmas.List.Elements.{filter-append}
+use Rattle.program_laws.proofs.Common.{◌≡◌, ℕ, suc, ◌+◌, ◌≤◌, length, map, List, [], ◌∷◌, ◌++◌, Some, None, Bool, true, false, ◌&&◌, not, Option, refl, ap, sym, subst, ◌∙◌, slice_get, arith, AllByRecursion, list_all, filter-append, not-true, and_parts, length-map, Shape, EventExpr, Site, TypedTerm, if_known, names_in, stands, same, Local, is_local, Seen, KnowsName, State, Around, short, captured_in, bound_in, callback_start, with_site, known_shape, bound_seen}
+use Rattle.std.proofs.Common.{length-append}
 use Rattle.std.proofs.lemmas.List.Sums.{length-filter, count_by-le-length}
-use Rattle.std.proofs.lemmas.Bool.{not-true, and_parts}
-use Rattle.std.proofs.lemmas.List.{length-map}
-use Rattle.epl_values.specs.declared.shape.Shape.{Shape}
-use Rattle.epl_tree.specs.declared.event.EventExpr.{EventExpr}
-use Rattle.typed_program.specs.declared.program.Site.{Site}
-use Rattle.typed_program.specs.declared.program.TypedTerm.{TypedTerm}
-use Rattle.typed_program.specs.Expressions.{if_known}
-use Rattle.typed_program.specs.Programs.{names_in}
-use Rattle.typed_program.specs.Shapes.{stands, same}
-use Rattle.typed_program.specs.declared.program.Local.{Local}
-use Rattle.typed_program.specs.Statements.{captures, is_local}
-use Rattle.type_table.specs.declared.scope.Seen.{Seen}
-use Rattle.program_laws.specs.Known.{KnowsName}
-use Rattle.stmt_check.specs.declared.state.State.{State}
-use Rattle.stmt_check.specs.Bodies.{Around, short, is_global, captured_in, bound_in, callback_start, with_site, local_of, known_shape, outer_seen, bound_seen}
+use Rattle.typed_program.specs.Statements.{captures}
+use Rattle.stmt_check.specs.Bodies.{is_global, local_of, outer_seen}
 use Rattle.stmt_check.specs.Captures.{Names as Named}
 use Rattle.stmt_check.specs.Steps.{within}
 use Rattle.program_laws.proofs.Exprs.Alike.{same_self}

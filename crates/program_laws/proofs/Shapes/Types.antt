@@ -1,27 +1,11 @@
 -- A type as it is written, without a fault, is a shape that names what is there.
-use Rattle.std.proofs.Common.{◌≡◌, ℕ, ◌<◌, min, length, map, List, [], ◌++◌, Some, None, true, ◌&&◌, Option, refl, ap, sym, subst, ◌∙◌, arith, nat_lt}
-use Rattle.std.specs.Str.{bytes_eq}
-use Rattle.std.proofs.lemmas.Bool.Decides.{nat_tests}
-use Rattle.std.proofs.lemmas.List.Quantifiers.{position-Some}
-use Rattle.std.proofs.lemmas.List.{length-map}
-use Rattle.span_text.specs.declared.spot.Spot.{Spot}
-use Rattle.epl_values.specs.declared.shape.Shape.{Shape, Shape-F, out-Shape}
-use Rattle.epl_values.specs.declared.shape.EventShape.{EventShape}
+use Rattle.program_laws.proofs.Common.{◌≡◌, ℕ, ◌<◌, min, length, map, List, [], ◌++◌, Some, None, true, ◌&&◌, Option, refl, ap, sym, subst, ◌∙◌, arith, nat_lt, bytes_eq, nat_tests, position-Some, length-map, Spot, Shape, Shape-F, out-Shape, EventShape, fold-roll-Shape, TypeExpr, TypeNode, TypeNode-F, roll-TypeNode, roll-TypeExpr, fold-TypeNode, fold-roll-TypeNode, fold-roll-TypeExpr, ind-TypeExpr, map-TypeNode, stands, Standing, standing_step, is_scalar_layer, Table, Found, told, number_in, event_of, Written, node_found, written_step, written_of, type_by, type_found}
 use Rattle.epl_values.specs.declared.shape.Shape.TheVariants as shape
 use Rattle.epl_values.specs.declared.shape.Shape.TheOpen as layer
-use Rattle.epl_values.specs.declared.shape.Shape.TheFolds.{fold-Shape, fold-roll-Shape, fold_out-Shape, map-Shape}
-use Rattle.epl_tree.specs.declared.types.TypeExpr.{TypeExpr}
-use Rattle.epl_tree.specs.declared.types.TypeNode.{TypeNode}
-use Rattle.epl_tree.specs.declared.types.TypeNode.TheOpen.{TypeNode-F}
+use Rattle.epl_values.specs.declared.shape.Shape.TheFolds.{fold-Shape, fold_out-Shape, map-Shape}
 use Rattle.epl_tree.specs.declared.types.TypeNode.TheOpen as node
-use Rattle.epl_tree.specs.declared.types.TypeNode.TheViews.{roll-TypeNode, roll-TypeExpr}
-use Rattle.epl_tree.specs.declared.types.TypeNode.TheFolds.{fold-TypeNode, fold-roll-TypeNode, fold-roll-TypeExpr, ind-TypeExpr, map-TypeNode}
-use Rattle.typed_program.specs.Shapes.{stands, Standing, standing_step, is_scalar, is_scalar_layer}
-use Rattle.type_table.specs.declared.table.Table.{Table}
-use Rattle.type_table.specs.Found.{Found, told}
-use Rattle.type_table.specs.Names.{number_in}
-use Rattle.type_table.specs.Table.{event_of}
-use Rattle.type_table.specs.Types.{Written, event_shape, key_codes, node_found, written_step, written_of, type_by, type_found}
+use Rattle.typed_program.specs.Shapes.{is_scalar}
+use Rattle.type_table.specs.Types.{event_shape, key_codes}
 use Rattle.program_laws.proofs.Exprs.Standing.{integer_stands, boolean_stands, text_stands, context_stands, listener_stands}
 use Rattle.program_laws.proofs.Shapes.Lists.{both_true, no_both, no_told, no_unless}
 

@@ -1,16 +1,7 @@
 -- The program of files in which no fault is found has its shapes.
-use Rattle.std.proofs.Common.{◌≡◌, ℕ, suc, ◌+◌, length, map, List, [], ◌∷◌, Some, true, refl, ap, sym, subst, ◌∙◌, slice_get, arith}
-use Rattle.std.proofs.lemmas.Option.{slice_get_within}
-use Rattle.epl_values.specs.declared.shape.EventShape.{EventShape}
-use Rattle.epl_tree.specs.declared.unit.EventDecl.{EventDecl}
+use Rattle.program_laws.proofs.Common.{◌≡◌, ℕ, suc, ◌+◌, length, map, List, [], ◌∷◌, Some, true, refl, ap, sym, subst, ◌∙◌, slice_get, arith, slice_get_within, EventShape, EventDecl, Monitor, Program, Site, HasShapes, monitor_so, action_so, site_so, event_shape, numbers, kinds_of, names_of, IsProgram, made_of, nothing_made}
 use Rattle.epl_tree.specs.declared.unit.Unit.{Unit as File}
-use Rattle.typed_program.specs.declared.program.Monitor.{Monitor}
-use Rattle.typed_program.specs.declared.program.Program.{Program}
-use Rattle.typed_program.specs.declared.program.Site.{Site}
-use Rattle.typed_program.specs.Programs.{HasShapes, monitor_so, monitors_so, action_so, site_so}
-use Rattle.type_table.specs.Gathers.{event_shape, numbers}
-use Rattle.type_table.specs.Kinds.{kinds_of, names_of}
-use Rattle.stmt_check.specs.Programs.{IsProgram, made_of, nothing_made}
+use Rattle.typed_program.specs.Programs.{monitors_so}
 use Rattle.program_laws.proofs.Shapes.Files.{AllHolds, files_hold, same_numbers}
 use Rattle.program_laws.proofs.Shapes.Kinds.{KindsHold, kinds_hold}
 use Rattle.program_laws.proofs.Shapes.Lists.{both_true, every_true, all_by_place}

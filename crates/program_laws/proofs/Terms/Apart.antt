@@ -1,25 +1,6 @@
 -- An expression that names none of the names by which two scopes differ is the same in both.
-use Rattle.std.proofs.Common.{◌≡◌, ℕ, Bool, false, ◌||◌, List, [], ◌∷◌, map, Option, refl, sym, ap, ap₂, subst, ◌∙◌}
-use Rattle.std.proofs.lemmas.Bool.{or_parts}
-use Rattle.span_text.specs.declared.spot.Spot.{Spot}
-use Rattle.epl_tree.specs.declared.expression.Expr.{Expr, Expr-F, map-Expr, roll-Expr, fold-roll-Expr}
-use Rattle.epl_tree.specs.declared.expression.ExprNode.{ExprNode, ExprNode-F, map-ExprNode, roll-ExprNode, fold-ExprNode, fold-roll-ExprNode}
+use Rattle.program_laws.proofs.Common.{◌≡◌, ℕ, Bool, false, ◌||◌, List, [], ◌∷◌, map, Option, refl, sym, ap, ap₂, subst, ◌∙◌, or_parts, Spot, Expr, Expr-F, map-Expr, roll-Expr, fold-roll-Expr, ExprNode, ExprNode-F, map-ExprNode, roll-ExprNode, fold-ExprNode, fold-roll-ExprNode, Link, Link-F, map-Link, roll-Link, fold-roll-Link, Entry, Entry-F, map-Entry, roll-Entry, fold-roll-Entry, Suffix, Suffix-F, map-Suffix, roll-Suffix, fold-roll-Suffix, SuffixNode, SuffixNode-F, map-SuffixNode, roll-SuffixNode, fold-SuffixNode, fold-roll-SuffixNode, ind-Expr, Scope, Table, ActionHead, seen, name_found, event_of, action_named, plan_of, plan_found, Pair, Part, Linked, Step, Node, StepNode}
 use Rattle.epl_tree.specs.declared.expression.ExprNode.TheOpen as node
-use Rattle.epl_tree.specs.declared.expression.Link.{Link, Link-F, map-Link, roll-Link, fold-roll-Link}
-use Rattle.epl_tree.specs.declared.expression.Entry.{Entry, Entry-F, map-Entry, roll-Entry, fold-roll-Entry}
-use Rattle.epl_tree.specs.declared.expression.Suffix.{Suffix, Suffix-F, map-Suffix, roll-Suffix, fold-roll-Suffix}
-use Rattle.epl_tree.specs.declared.expression.SuffixNode.{SuffixNode, SuffixNode-F, map-SuffixNode, roll-SuffixNode, fold-SuffixNode, fold-roll-SuffixNode}
-use Rattle.epl_tree.specs.declared.expression.ExprNode.TheFolds.{ind-Expr}
-use Rattle.type_table.specs.declared.scope.Scope.{Scope}
-use Rattle.type_table.specs.declared.table.Table.{Table}
-use Rattle.type_table.specs.declared.table.ActionHead.{ActionHead}
-use Rattle.expr_rules.specs.Names.{seen, name_found}
-use Rattle.type_table.specs.Table.{event_of}
-use Rattle.expr_rules.specs.Calls.{action_named, plan_of, plan_found}
-use Rattle.expr_rules.specs.Literals.{Pair}
-use Rattle.expr_rules.specs.Operators.{Part, Linked}
-use Rattle.expr_rules.specs.Postfix.{Step}
-use Rattle.expr_check.specs.Expressions.{Node, StepNode}
 use Rattle.expr_check.specs.Expressions as check
 use Rattle.listener_check.specs.Names as names
 use Rattle.listener_check.specs.Names.{some_of}

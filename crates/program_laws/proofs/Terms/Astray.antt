@@ -1,45 +1,17 @@
 -- Where an expression is told to be astray there is a fault in it.
-use Rattle.std.proofs.Common.{◌≡◌, ℕ, ◌+◌, ◌-◌, Bool, true, false, List, [], ◌∷◌, ◌++◌, map, length, Option, Some, None, sym, subst, arith}
-use Rattle.std.specs.List.{AllByRecursion}
-use Rattle.std.proofs.lemmas.List.{length_push}
-use Rattle.span_text.specs.declared.spot.Spot.{Spot}
-use Rattle.epl_tree.specs.declared.expression.Expr.{Expr, Expr-F, map-Expr, roll-Expr, fold-roll-Expr}
-use Rattle.epl_tree.specs.declared.expression.ExprNode.{ExprNode, ExprNode-F, map-ExprNode, roll-ExprNode, fold-ExprNode, fold-roll-ExprNode}
+use Rattle.program_laws.proofs.Common.{◌≡◌, ℕ, ◌+◌, ◌-◌, Bool, true, false, List, [], ◌∷◌, ◌++◌, map, length, Option, Some, None, sym, subst, arith, AllByRecursion, length_push, Spot, Expr, Expr-F, map-Expr, roll-Expr, fold-roll-Expr, ExprNode, ExprNode-F, map-ExprNode, roll-ExprNode, fold-ExprNode, fold-roll-ExprNode, Link, Entry, Suffix, Suffix-F, map-Suffix, roll-Suffix, fold-roll-Suffix, SuffixNode, SuffixNode-F, map-SuffixNode, roll-SuffixNode, fold-SuffixNode, fold-roll-SuffixNode, ind-Expr, TypedNode, roll-TypedSuffix, Shape, Scope, Seen, Table, Found, type_found, event_of, Logic, Level, Sort, Gives, Judged, Root, Reach, Walk, Demand, operand, inside, seen, name_found, Pair, integer_stands, greatest, empty_stands, sequence_items, element_found, no_elements, dictionary_items, entry_found, no_entries, plan_of, plan_found, action_named, arguments_found, context_found, context_start, Part, Linked, operated, chain_start, join_found, links_start, link_found, judged, place_codes, given_codes, change_code, astray_code, called_of, Step, walked, reached, near, demand_before, walk_start, step_found, postfix_found, called_found, sound, codes_of, Node, StepNode, node_step, suffix_node_step, entry_step, expr_step, link_step, suffix_step, link_part, entry_part, typed_of, expr_found}
 use Rattle.epl_tree.specs.declared.expression.ExprNode.TheOpen as node
-use Rattle.epl_tree.specs.declared.expression.Link.{Link}
-use Rattle.epl_tree.specs.declared.expression.Entry.{Entry}
-use Rattle.epl_tree.specs.declared.expression.Suffix.{Suffix, Suffix-F, map-Suffix, roll-Suffix, fold-roll-Suffix}
-use Rattle.epl_tree.specs.declared.expression.SuffixNode.{SuffixNode, SuffixNode-F, map-SuffixNode, roll-SuffixNode, fold-SuffixNode, fold-roll-SuffixNode}
-use Rattle.epl_tree.specs.declared.expression.ExprNode.TheFolds.{ind-Expr}
-use Rattle.typed_program.specs.declared.expression.TypedNode.{TypedNode}
-use Rattle.typed_program.specs.declared.expression.TypedSuffix.{roll-TypedSuffix}
-use Rattle.epl_values.specs.declared.shape.Shape.{Shape}
-use Rattle.type_table.specs.declared.scope.Scope.{Scope}
-use Rattle.type_table.specs.declared.scope.Seen.{Seen}
-use Rattle.type_table.specs.declared.table.Table.{Table}
-use Rattle.type_table.specs.Found.{Found}
-use Rattle.type_table.specs.Types.{type_found}
-use Rattle.type_table.specs.Table.{event_of}
-use Rattle.expr_rules.specs.declared.operators.Logic.{Logic}
 use Rattle.expr_rules.specs.declared.operators.Logic.TheVariants as logic
-use Rattle.expr_rules.specs.declared.operators.Level.{Level}
 use Rattle.expr_rules.specs.declared.operators.Level.TheVariants as level
-use Rattle.expr_rules.specs.declared.operators.Sort.{Sort}
-use Rattle.expr_rules.specs.declared.placed.Gives.{Gives}
-use Rattle.expr_rules.specs.declared.placed.Judged.{Judged}
-use Rattle.expr_rules.specs.declared.placed.Root.{Root}
-use Rattle.expr_rules.specs.declared.methods.Reach.{Reach}
-use Rattle.expr_rules.specs.declared.steps.Walk.{Walk}
-use Rattle.expr_rules.specs.Asked.{Demand, operand, negated, plain, inside}
-use Rattle.expr_rules.specs.Names.{seen, name_found}
-use Rattle.expr_rules.specs.Literals.{Pair, integer_stands, literal, within, greatest, number_of, empty_stands, sequence_items, sequence_of, element_found, no_elements, dictionary_items, dictionary_of, entry_found, no_entries, new_stands}
-use Rattle.expr_rules.specs.Calls.{plan_of, plan_found, action_named, arguments_found, call_stands, context_found, context_stands, context_start}
-use Rattle.expr_rules.specs.Operators.{Part, Linked, operated, not_of, minus_of, comparison_of, comparison_right, chain_of, chain_start, join_found, logic_rest, links_of, links_start, link_found, links_rest}
-use Rattle.expr_rules.specs.Places.{placed, stands, judged, place_codes, given_codes, change_code, astray_code, group_of}
-use Rattle.expr_rules.specs.Methods.{called_of, method_named}
-use Rattle.expr_rules.specs.Postfix.{Step, walked, reached, index_wish, near, element_stands, element_step, method_stands, demand_before, walk_start, step_found, postfix_of, walked_from, postfix_rest, postfix_found, leads, field_of, called_found}
-use Rattle.expr_rules.specs.Then.{and_then, sound, through, codes_of}
-use Rattle.expr_check.specs.Expressions.{Node, StepNode, node_step, suffix_node_step, entry_step, expr_step, link_step, suffix_step, part_of, link_part, entry_part, step_of, typed_of, expr_found}
+use Rattle.expr_rules.specs.Asked.{negated, plain}
+use Rattle.expr_rules.specs.Literals.{literal, within, number_of, sequence_of, dictionary_of, new_stands}
+use Rattle.expr_rules.specs.Calls.{call_stands, context_stands}
+use Rattle.expr_rules.specs.Operators.{not_of, minus_of, comparison_of, comparison_right, chain_of, logic_rest, links_of, links_rest}
+use Rattle.expr_rules.specs.Places.{placed, stands, group_of}
+use Rattle.expr_rules.specs.Methods.{method_named}
+use Rattle.expr_rules.specs.Postfix.{index_wish, element_stands, element_step, method_stands, postfix_of, walked_from, postfix_rest, leads, field_of}
+use Rattle.expr_rules.specs.Then.{and_then, through}
+use Rattle.expr_check.specs.Expressions.{part_of, step_of}
 use Rattle.program_laws.proofs.Exprs.Sure.{Sure, sure_then, sure_sound, sure_any}
 use Rattle.program_laws.proofs.Shapes.Lists.{no_both, no_told}
 

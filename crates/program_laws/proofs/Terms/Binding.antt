@@ -1,29 +1,11 @@
 -- Names are bound in order of the source, each once, and the names that an event expression binds are there behind those around it.
-use Rattle.std.proofs.Common.{◌≡◌, ℕ, ◌+◌, ◌<◌, ◌≤◌, Bool, true, false, ◌||◌, nat_le, List, [], ◌∷◌, ◌++◌, map, drop, length, Option, Some, None, is_some, slice_get, refl, sym, ap, ◌∙◌, true≢false, arith, append_assoc, if◌then◌else◌}
-use Rattle.std.specs.List.{find}
-use Rattle.std.specs.Str.{bytes_eq}
+use Rattle.program_laws.proofs.Common.{◌≡◌, ℕ, ◌+◌, ◌<◌, ◌≤◌, Bool, true, false, ◌||◌, nat_le, List, [], ◌∷◌, ◌++◌, map, drop, length, Option, Some, None, is_some, slice_get, refl, sym, ap, ◌∙◌, true≢false, arith, append_assoc, if◌then◌else◌, find, bytes_eq, drop-append_seam, nat_tests, length-append, length_push, append-nil, length-map, or_parts, Shape, Name, TemplateClause, Local, Names, Scope, Seen, Table, told, event_of, seen_of, Sofar, seen_bound, clause_binds, clauses_bind, is_among, bound_of, local_of, local_shape, is_full, is_taken, name_codes, with_name, went}
 use Rattle.std.specs.Prelude.{cond}
-use Rattle.std.proofs.Math.Seq.{drop-append_seam}
-use Rattle.std.proofs.lemmas.Bool.Decides.{nat_tests}
-use Rattle.std.proofs.lemmas.List.{length-append, length_push, append-nil, length-map}
-use Rattle.std.proofs.lemmas.Bool.{or_parts}
-use Rattle.epl_values.specs.declared.shape.Shape.{Shape}
 use Rattle.epl_values.specs.declared.shape.Shape.TheVariants as shape
-use Rattle.epl_tree.specs.declared.name.Name.{Name}
-use Rattle.epl_tree.specs.declared.event.TemplateClause.{TemplateClause}
 use Rattle.epl_tree.specs.declared.event.TemplateClause.TheVariants as clause
-use Rattle.typed_program.specs.declared.program.Local.{Local}
-use Rattle.typed_program.specs.Expressions.{Names}
-use Rattle.type_table.specs.declared.scope.Scope.{Scope}
-use Rattle.type_table.specs.declared.scope.Seen.{Seen}
-use Rattle.type_table.specs.declared.table.Table.{Table}
-use Rattle.type_table.specs.Found.{told}
-use Rattle.type_table.specs.Table.{event_of, seen_of}
-use Rattle.listener_check.specs.declared.sofar.Sofar.{Sofar}
-use Rattle.listener_check.specs.Bound.{seen_bound, with_bound, clause_binds, clauses_bind, is_among, bound_of, local_of, local_shape, event_shape}
+use Rattle.listener_check.specs.Bound.{with_bound, event_shape}
 use Rattle.listener_check.specs.Limits.{short}
-use Rattle.listener_check.specs.Templates.{is_full, is_taken, name_codes, name_read, with_name}
-use Rattle.listener_check.specs.Went.{went}
+use Rattle.listener_check.specs.Templates.{name_read}
 use Rattle.program_laws.proofs.Shapes.Lists.{no_both, no_told, no_if}
 use Rattle.program_laws.proofs.Terms.Bounds.{widened, seen_there, seen_found_none, BoundAt, numbered_push}
 use Rattle.program_laws.proofs.Terms.Roots.{shape_bound, shapes_twice}

@@ -1,20 +1,10 @@
 -- The names that an event expression binds, behind those around it: events with their places, in order.
-use Rattle.std.proofs.Common.{◌≡◌, ℕ, zero, suc, ◌+◌, ◌<◌, Bool, true, false, ◌&&◌, not, List, [], ◌∷◌, ◌++◌, length, Option, Some, None, is_some, slice_get, refl, sym, ap, subst, ◌∙◌, true≢false, arith}
-use Rattle.std.specs.List.{position, find}
-use Rattle.std.specs.Str.{bytes_eq}
+use Rattle.program_laws.proofs.Common.{◌≡◌, ℕ, zero, suc, ◌+◌, ◌<◌, Bool, true, false, ◌&&◌, not, List, [], ◌∷◌, ◌++◌, length, Option, Some, None, is_some, slice_get, refl, sym, ap, subst, ◌∙◌, true≢false, arith, position, find, bytes_eq, position_or_len, nat_tests, Names, Scope, Seen, seen_of, seen, item_at, is_own}
 use Rattle.std.proofs.lemmas.List.Folds.{find_at}
 use Rattle.std.proofs.lemmas.Option.{slice_get_past}
-use Rattle.std.specs.List.{position_or_len}
 use Rattle.std.specs.Prelude.{nat_lt, cond}
-use Rattle.std.proofs.lemmas.Bool.Decides.{nat_tests}
 use Rattle.epl_values.specs.declared.shape.Shape.TheVariants as shape
-use Rattle.typed_program.specs.Expressions.{Names}
-use Rattle.type_table.specs.declared.scope.Scope.{Scope}
-use Rattle.type_table.specs.declared.scope.Seen.{Seen}
 use Rattle.type_table.specs.declared.scope.SeenKind.TheVariants as kind
-use Rattle.type_table.specs.Table.{seen_of}
-use Rattle.expr_rules.specs.Names.{seen, item_at}
-use Rattle.listener_check.specs.Bound.{is_own}
 use Rattle.program_laws.proofs.Shapes.Lists.{slice_some}
 
 -- ---- the first that passes

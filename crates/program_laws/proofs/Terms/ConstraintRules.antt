@@ -1,39 +1,19 @@
 -- Constraints without faults keep the rules: what may be asked of a field, and of each field once.
-use Rattle.std.proofs.Common.{◌≡◌, ℕ, min, Bool, true, false, ◌&&◌, ◌||◌, not, ◌==◌, List, [], ◌∷◌, ◌++◌, length, Option, Some, None, slice_get, refl, sym, ap, ◌∙◌, true≢false, arith, append_assoc, if◌then◌else◌}
-use Rattle.std.specs.List.{list_all, list_any}
-use Rattle.std.proofs.lemmas.Bool.{and_from, and_parts, or_parts, not-true, not-false}
-use Rattle.std.proofs.lemmas.Bool.Decides.{nat_tests}
-use Rattle.std.proofs.lemmas.List.Folds.{list_all-append}
-use Rattle.std.proofs.lemmas.Option.{slice_get_within}
-use Rattle.std.proofs.lemmas.List.{append-nil}
-use Rattle.epl_values.specs.declared.shape.Field.{Field}
-use Rattle.epl_values.specs.declared.shape.EventShape.{EventShape}
-use Rattle.epl_values.specs.declared.shape.Shape.{Shape, Shape-F, out-Shape}
+use Rattle.program_laws.proofs.Common.{◌≡◌, ℕ, min, Bool, true, false, ◌&&◌, ◌||◌, not, ◌==◌, List, [], ◌∷◌, ◌++◌, length, Option, Some, None, slice_get, refl, sym, ap, ◌∙◌, true≢false, arith, append_assoc, if◌then◌else◌, list_all, list_any, and_from, and_parts, or_parts, not-true, not-false, nat_tests, list_all-append, slice_get_within, append-nil, Field, EventShape, Shape, Shape-F, out-Shape, Constraint, ConstraintNode, Range, Comparison, Expr, is_scalar_layer, is_ordered_layer, Names, if_known, field_shape, shape_in, asked_fields, differ, constraint_lawful, Scope, Table, told, KnowsTable, KnowsType, Done, Sofar, is_named, number_of, missing_code, field_codes, none_done, lies, missing_read, found_read, numbered_read, constraint_read, constraint_step, constraints_read, went}
 use Rattle.epl_values.specs.declared.shape.Shape.TheOpen as layer
-use Rattle.epl_tree.specs.declared.event.Constraint.{Constraint}
-use Rattle.epl_tree.specs.declared.event.ConstraintNode.{ConstraintNode}
 use Rattle.epl_tree.specs.declared.event.ConstraintNode.TheVariants as node
-use Rattle.epl_tree.specs.declared.event.Range.{Range}
-use Rattle.epl_tree.specs.declared.expression.Comparison.{Comparison}
 use Rattle.epl_tree.specs.declared.expression.Comparison.TheVariants as comparison
-use Rattle.epl_tree.specs.declared.expression.Expr.{Expr}
 use Rattle.typed_program.specs.declared.term.Constraint.{Constraint as Typed}
 use Rattle.typed_program.specs.declared.term.ConstraintNode.{ConstraintNode as TypedNode}
 use Rattle.typed_program.specs.declared.term.ConstraintNode.TheVariants as made
-use Rattle.typed_program.specs.Shapes.{is_scalar, is_scalar_layer, is_ordered_layer}
+use Rattle.typed_program.specs.Shapes.{is_scalar}
 use Rattle.typed_program.specs.Shapes.{is_ordered as is_ordered_shape}
-use Rattle.typed_program.specs.Expressions.{Names, if_known, field_shape, shape_in, fields_at}
-use Rattle.typed_program.specs.TermRules.{may_constrain, asks, asked_fields, differ, constraint_lawful, is_equality}
-use Rattle.type_table.specs.declared.scope.Scope.{Scope}
-use Rattle.type_table.specs.declared.table.Table.{Table}
-use Rattle.type_table.specs.Found.{told}
-use Rattle.program_laws.specs.Known.{KnowsTable, KnowsType}
-use Rattle.listener_check.specs.declared.constraint.Done.{Done}
-use Rattle.listener_check.specs.declared.sofar.Sofar.{Sofar}
-use Rattle.listener_check.specs.Constraints.{is_named, is_any, orders, is_ordered, number_of, missing_code, is_boolean, is_boolean_layer, asks_nothing, constrains, is_repeated, is_misordered, is_misused, is_unfit, is_refused, field_codes, none_done, compares_read, lies, lies_read, asked_read, placed_read, missing_read, found_read, numbered_read, constraint_read, constraint_step, constraints_read}
+use Rattle.typed_program.specs.Expressions.{fields_at}
+use Rattle.typed_program.specs.TermRules.{may_constrain, asks, is_equality}
+use Rattle.listener_check.specs.Constraints.{is_any, orders, is_ordered, is_boolean, is_boolean_layer, asks_nothing, constrains, is_repeated, is_misordered, is_misused, is_unfit, is_refused, compares_read, lies_read, asked_read, placed_read}
 use Rattle.listener_check.specs.Limits.{short}
 use Rattle.listener_check.specs.Operands.{operand_read}
-use Rattle.listener_check.specs.Went.{went, through, ◌>>=◌}
+use Rattle.listener_check.specs.Went.{through, ◌>>=◌}
 use Rattle.program_laws.proofs.Shapes.Lists.{all_at, no_told, no_if}
 use Rattle.program_laws.proofs.Terms.Thus.{Thus, thus_went, thus_then, thus_behind}
 

@@ -1,37 +1,17 @@
 -- Constraints without faults are of the fields that they stand for.
-use Rattle.std.proofs.Common.{◌≡◌, ℕ, min, Bool, true, ◌&&◌, ◌||◌, List, [], ◌∷◌, ◌++◌, map, length, Option, Some, None, slice_get, refl, ap, ◌∙◌, arith}
-use Rattle.std.specs.List.{list_all}
-use Rattle.std.proofs.lemmas.Bool.{and_from}
-use Rattle.std.proofs.lemmas.Option.{slice_get_within}
-use Rattle.std.proofs.lemmas.List.Folds.{list_all-append}
-use Rattle.epl_values.specs.declared.shape.Field.{Field}
-use Rattle.epl_values.specs.declared.shape.EventShape.{EventShape}
-use Rattle.epl_values.specs.declared.shape.Shape.{Shape}
-use Rattle.epl_tree.specs.declared.event.Constraint.{Constraint}
-use Rattle.epl_tree.specs.declared.event.ConstraintNode.{ConstraintNode}
+use Rattle.program_laws.proofs.Common.{◌≡◌, ℕ, min, Bool, true, ◌&&◌, ◌||◌, List, [], ◌∷◌, ◌++◌, map, length, Option, Some, None, slice_get, refl, ap, ◌∙◌, arith, list_all, and_from, slice_get_within, list_all-append, Field, EventShape, Shape, Constraint, ConstraintNode, Range, Comparison, Expr, Operand, stands, Names, if_known, field_shape, shape_in, operand_so, constraint_so, Scope, Table, told, KnowsTable, KnowsNamed, KnowsType, Done, Sofar, is_named, number_of, missing_code, field_codes, none_done, lies, missing_read, found_read, numbered_read, constraint_read, constraint_step, constraints_read, went, any_of, expr_names, range_names, constraint_names}
 use Rattle.epl_tree.specs.declared.event.ConstraintNode.TheVariants as node
-use Rattle.epl_tree.specs.declared.event.Range.{Range}
-use Rattle.epl_tree.specs.declared.expression.Comparison.{Comparison}
 use Rattle.epl_tree.specs.declared.expression.Comparison.TheVariants as comparison
-use Rattle.epl_tree.specs.declared.expression.Expr.{Expr}
 use Rattle.typed_program.specs.declared.term.Constraint.{Constraint as Typed}
 use Rattle.typed_program.specs.declared.term.ConstraintNode.{ConstraintNode as TypedNode}
 use Rattle.typed_program.specs.declared.term.ConstraintNode.TheVariants as made
-use Rattle.typed_program.specs.declared.term.Operand.{Operand}
-use Rattle.typed_program.specs.Shapes.{stands}
-use Rattle.typed_program.specs.Expressions.{Names, if_known, field_shape, shape_in, fields_at}
-use Rattle.typed_program.specs.Terms.{Around, operand_so, node_fits, constraint_so}
-use Rattle.type_table.specs.declared.scope.Scope.{Scope}
-use Rattle.type_table.specs.declared.table.Table.{Table}
-use Rattle.type_table.specs.Found.{told}
-use Rattle.program_laws.specs.Known.{KnowsTable, KnowsNamed, KnowsType}
-use Rattle.listener_check.specs.declared.constraint.Done.{Done}
-use Rattle.listener_check.specs.declared.sofar.Sofar.{Sofar}
-use Rattle.listener_check.specs.Constraints.{is_named, number_of, missing_code, field_codes, none_done, compares_read, lies, lies_read, asked_read, placed_read, missing_read, found_read, numbered_read, constraint_read, constraint_step, constraints_read}
+use Rattle.typed_program.specs.Expressions.{fields_at}
+use Rattle.typed_program.specs.Terms.{Around, node_fits}
+use Rattle.listener_check.specs.Constraints.{compares_read, lies_read, asked_read, placed_read}
 use Rattle.listener_check.specs.Limits.{short}
 use Rattle.listener_check.specs.Operands.{operand_read}
-use Rattle.listener_check.specs.Went.{went, through, ◌>>=◌}
-use Rattle.stmt_check.specs.Captures.{any_of, expr_names, range_names, constraint_node, constraint_names}
+use Rattle.listener_check.specs.Went.{through, ◌>>=◌}
+use Rattle.stmt_check.specs.Captures.{constraint_node}
 use Rattle.program_laws.proofs.Exprs.Arguments.{every_at}
 use Rattle.program_laws.proofs.Exprs.Knowing.{knows_left, knows_right, knows_first, knows_rest}
 use Rattle.program_laws.proofs.Shapes.Lists.{all_at, no_told}

@@ -1,42 +1,19 @@
 -- What a part of an event expression counts: its operands and durations, its leaves, and the names that it binds.
-use Rattle.std.proofs.Common.{◌≡◌, ℕ, ◌+◌, Bool, ◌||◌, List, [], ◌∷◌, ◌++◌, length, Option, Some, None, refl, sym, ap, subst, ◌∙◌, arith}
-use Rattle.std.specs.List.{flat_map}
-use Rattle.std.proofs.lemmas.Grind.{flat_map-append}
-use Rattle.std.proofs.lemmas.List.{length-append}
-use Rattle.span_text.specs.declared.spot.Spot.{Spot}
-use Rattle.epl_values.specs.declared.shape.Field.{Field}
-use Rattle.epl_values.specs.declared.shape.Shape.{Shape}
-use Rattle.epl_tree.specs.declared.event.Constraint.{Constraint}
-use Rattle.epl_tree.specs.declared.event.ConstraintNode.{ConstraintNode}
+use Rattle.program_laws.proofs.Common.{◌≡◌, ℕ, ◌+◌, Bool, ◌||◌, List, [], ◌∷◌, ◌++◌, length, Option, Some, None, refl, sym, ap, subst, ◌∙◌, arith, flat_map, flat_map-append, length-append, Spot, Field, Shape, Constraint, ConstraintNode, Duration, Range, Comparison, Expr, out-Expr, TypedExpr, TypedLink, out-TypedLink, Operand, operands_in, Scope, Table, Found, told, Done, Reached, Sofar, Naming, is_named, number_of, missing_code, field_codes, none_done, lies, missing_read, found_read, numbered_read, constraint_read, constraint_step, constraints_read, sum_codes, with_sum, bound, sum_layer, naming_of, went}
 use Rattle.epl_tree.specs.declared.event.ConstraintNode.TheVariants as node
-use Rattle.epl_tree.specs.declared.event.Duration.{Duration}
-use Rattle.epl_tree.specs.declared.event.Range.{Range}
-use Rattle.epl_tree.specs.declared.expression.Comparison.{Comparison}
 use Rattle.epl_tree.specs.declared.expression.Comparison.TheVariants as comparison
-use Rattle.epl_tree.specs.declared.expression.Expr.{Expr, out-Expr}
-use Rattle.typed_program.specs.declared.expression.TypedExpr.{TypedExpr}
-use Rattle.typed_program.specs.declared.expression.TypedLink.{TypedLink, out-TypedLink}
 use Rattle.typed_program.specs.declared.expression.TypedNode.TheOpen as typed
 use Rattle.typed_program.specs.declared.term.Constraint.{Constraint as Typed}
 use Rattle.typed_program.specs.declared.term.ConstraintNode.{ConstraintNode as TypedNode}
 use Rattle.typed_program.specs.declared.term.ConstraintNode.TheVariants as made
-use Rattle.typed_program.specs.declared.term.Operand.{Operand}
 use Rattle.typed_program.specs.declared.term.Operand.TheVariants as operand
-use Rattle.typed_program.specs.TermRules.{operands_in}
-use Rattle.type_table.specs.declared.scope.Scope.{Scope}
-use Rattle.type_table.specs.declared.table.Table.{Table}
-use Rattle.type_table.specs.Found.{Found, told}
-use Rattle.listener_check.specs.declared.constraint.Done.{Done}
-use Rattle.listener_check.specs.declared.operand.Reached.{Reached}
-use Rattle.listener_check.specs.declared.sofar.Sofar.{Sofar}
-use Rattle.listener_check.specs.declared.value.Naming.{Naming}
 use Rattle.listener_check.specs.declared.value.Naming.TheVariants as naming
-use Rattle.listener_check.specs.Constraints.{is_named, number_of, missing_code, field_codes, none_done, compares_read, lies, lies_read, asked_read, placed_read, missing_read, found_read, numbered_read, constraint_read, constraint_step, constraints_read}
+use Rattle.listener_check.specs.Constraints.{compares_read, lies_read, asked_read, placed_read}
 use Rattle.listener_check.specs.Durations.{length_found, duration_read}
-use Rattle.listener_check.specs.Limits.{short, sum_read, sum_codes, with_sum}
-use Rattle.listener_check.specs.Operands.{Layer, layer_of, path_in, placed, bound, signed, last_of, added_operand, sum_layer, sum_operand, given_operand, operand_of, named_operand, operand_read, is_integer}
-use Rattle.listener_check.specs.Values.{naming_of, named_value}
-use Rattle.listener_check.specs.Went.{went, given, ◌>>=◌}
+use Rattle.listener_check.specs.Limits.{short, sum_read}
+use Rattle.listener_check.specs.Operands.{Layer, layer_of, path_in, placed, signed, last_of, added_operand, sum_operand, given_operand, operand_of, named_operand, operand_read, is_integer}
+use Rattle.listener_check.specs.Values.{named_value}
+use Rattle.listener_check.specs.Went.{given, ◌>>=◌}
 use Rattle.program_laws.proofs.Terms.Thus.{Thus, thus_went, thus_then, thus_behind, thus_given, thus_through, thus_weaker}
 
 -- so many operands and durations, and nothing else that is counted

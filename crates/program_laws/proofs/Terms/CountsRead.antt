@@ -1,35 +1,15 @@
 -- An event expression without faults counts at most its leaves and operands, and numbers the names that it binds in order.
-use Rattle.std.proofs.Common.{◌≡◌, ℕ, ◌+◌, ◌<◌, ◌≤◌, Bool, true, false, ◌==◌, nat_le, List, [], ◌∷◌, ◌++◌, map, drop, length, Option, Some, None, is_some, refl, sym, ap, subst, ◌∙◌, true≢false, arith, append_assoc, slice_get, if◌then◌else◌}
+use Rattle.program_laws.proofs.Common.{◌≡◌, ℕ, ◌+◌, ◌<◌, ◌≤◌, Bool, true, false, ◌==◌, nat_le, List, [], ◌∷◌, ◌++◌, map, drop, length, Option, Some, None, is_some, refl, sym, ap, subst, ◌∙◌, true≢false, arith, append_assoc, slice_get, if◌then◌else◌, and_from, and_parts, eq-eqb, or_parts, nat_tests, length-append, length_push, append-nil, sum_by-cons, Spot, EventShape, Field, Duration, Template, TemplateClause, EventExpr, Name, Term, Term-F, map-Term, roll-Term, fold-roll-Term, TemplateShape, term_part, count_up, Scope, Table, told, Sofar, Clauses, constraints_read, leaf_codes, with_leaf, is_taken, is_full, fields_of, name_codes, with_name, no_clauses, clauses_read, template_of, each_step, behind_step, each_behind, Went, went}
 use Rattle.std.specs.Prelude.{sum}
-use Rattle.std.proofs.lemmas.Bool.{and_from, and_parts, eq-eqb, or_parts}
-use Rattle.std.proofs.lemmas.Bool.Decides.{nat_tests}
-use Rattle.std.proofs.lemmas.List.{length-append, length_push, append-nil}
-use Rattle.std.proofs.lemmas.List.Sums.{sum_by-cons}
-use Rattle.span_text.specs.declared.spot.Spot.{Spot}
-use Rattle.epl_values.specs.declared.shape.EventShape.{EventShape}
-use Rattle.epl_values.specs.declared.shape.Field.{Field}
-use Rattle.epl_tree.specs.declared.event.Duration.{Duration}
-use Rattle.epl_tree.specs.declared.event.Template.{Template}
-use Rattle.epl_tree.specs.declared.event.TemplateClause.{TemplateClause}
 use Rattle.epl_tree.specs.declared.event.TemplateClause.TheVariants as clause
-use Rattle.epl_tree.specs.declared.event.EventExpr.{EventExpr}
-use Rattle.epl_tree.specs.declared.name.Name.{Name}
-use Rattle.typed_program.specs.declared.term.Term.{Term, Term-F, map-Term, roll-Term, fold-roll-Term}
-use Rattle.typed_program.specs.declared.term.TemplateShape.{TemplateShape}
-use Rattle.typed_program.specs.TermRules.{operands_of, durations, list_of, binds_all, term_part, part_of, count_up}
+use Rattle.typed_program.specs.TermRules.{operands_of, durations, list_of, binds_all, part_of}
 use Rattle.typed_program.specs.TermRules.{Part as Ruled}
-use Rattle.type_table.specs.declared.scope.Scope.{Scope}
-use Rattle.type_table.specs.declared.table.Table.{Table}
-use Rattle.type_table.specs.Found.{told}
-use Rattle.listener_check.specs.declared.sofar.Sofar.{Sofar}
-use Rattle.listener_check.specs.declared.template.Clauses.{Clauses}
-use Rattle.listener_check.specs.Constraints.{constraints_read}
 use Rattle.listener_check.specs.Durations.{duration_read}
-use Rattle.listener_check.specs.Limits.{short, leaf_read, leaf_codes, with_leaf}
-use Rattle.listener_check.specs.Templates.{is_taken, is_full, fields_of, name_codes, name_read, with_name, no_clauses, clause_read, clauses_read, template_of, parts_read, typed_read}
-use Rattle.listener_check.specs.Terms.{Part, each_step, each, behind_step, each_behind}
+use Rattle.listener_check.specs.Limits.{short, leaf_read}
+use Rattle.listener_check.specs.Templates.{name_read, clause_read, parts_read, typed_read}
+use Rattle.listener_check.specs.Terms.{Part, each}
 use Rattle.listener_check.specs.Terms as reading
-use Rattle.listener_check.specs.Went.{Went, went, through, ◌>>=◌}
+use Rattle.listener_check.specs.Went.{through, ◌>>=◌}
 use Rattle.program_laws.proofs.Shapes.Lists.{no_both, no_told, no_if}
 use Rattle.program_laws.proofs.Terms.Thus.{Thus, thus_went, thus_then, thus_behind, thus_through}
 use Rattle.program_laws.proofs.Terms.Counted.{Used, OfDone, constraints_used, duration_used}

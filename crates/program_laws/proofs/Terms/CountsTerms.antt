@@ -1,33 +1,14 @@
 -- The counts of every event expression: names in order, at most 64 leaves, at most 192 operands.
-use Rattle.std.proofs.Common.{◌≡◌, ℕ, ◌+◌, ◌≤◌, Bool, true, false, List, [], ◌∷◌, ◌++◌, map, length, Option, Some, None, refl, sym, ap, subst, ◌∙◌, arith}
-use Rattle.std.proofs.lemmas.List.{length-map, append-nil}
-use Rattle.span_text.specs.declared.spot.Spot.{Spot}
-use Rattle.epl_values.specs.declared.shape.EventShape.{EventShape}
-use Rattle.epl_tree.specs.declared.event.Duration.{Duration}
-use Rattle.epl_tree.specs.declared.event.Template.{Template}
-use Rattle.epl_tree.specs.declared.event.EventExpr.{EventExpr, EventExpr-F, map-EventExpr, roll-EventExpr, fold-roll-EventExpr}
-use Rattle.epl_tree.specs.declared.event.EventNode.{EventNode, EventNode-F, map-EventNode, roll-EventNode, fold-EventNode, fold-roll-EventNode}
+use Rattle.program_laws.proofs.Common.{◌≡◌, ℕ, ◌+◌, ◌≤◌, Bool, true, false, List, [], ◌∷◌, ◌++◌, map, length, Option, Some, None, refl, sym, ap, subst, ◌∙◌, arith, length-map, append-nil, Spot, EventShape, Duration, Template, EventExpr, EventExpr-F, map-EventExpr, roll-EventExpr, fold-roll-EventExpr, EventNode, EventNode-F, map-EventNode, roll-EventNode, fold-EventNode, fold-roll-EventNode, ind-EventExpr, Term, Names, count_up, Scope, Table, told, event_of, Sofar, local_of, template_read, not_codes, each_behind, may_begin, term_found, nothing_yet, went, event_names, KnowsTable, KnowsNamed}
 use Rattle.epl_tree.specs.declared.event.EventNode.TheOpen as node
-use Rattle.epl_tree.specs.declared.event.EventNode.TheFolds.{ind-EventExpr}
-use Rattle.typed_program.specs.declared.term.Term.{Term}
 use Rattle.typed_program.specs.declared.term.Term.TheVariants as term
 use Rattle.typed_program.specs.declared.term.Term.TheOpen as layer
-use Rattle.typed_program.specs.Expressions.{Names}
-use Rattle.typed_program.specs.TermRules.{count_up, part_of}
-use Rattle.type_table.specs.declared.scope.Scope.{Scope}
-use Rattle.type_table.specs.declared.table.Table.{Table}
-use Rattle.type_table.specs.Found.{told}
-use Rattle.type_table.specs.Table.{event_of}
-use Rattle.listener_check.specs.declared.sofar.Sofar.{Sofar}
-use Rattle.listener_check.specs.Bound.{local_of}
+use Rattle.typed_program.specs.TermRules.{part_of}
 use Rattle.listener_check.specs.Durations.{duration_read}
 use Rattle.listener_check.specs.Limits.{leaf_read}
-use Rattle.listener_check.specs.Templates.{template_read}
-use Rattle.listener_check.specs.Terms.{Part, not_codes, each, each_behind, followed_behind, followed_read, joined_behind, or_read, xor_read, may_begin, and_read, not_read, all_read, deadline_read, plain, negated, wait_read, ended_read, group_read, leaf_template_read, node_step, expr_step, term_found, nothing_yet}
+use Rattle.listener_check.specs.Terms.{Part, each, followed_behind, followed_read, joined_behind, or_read, xor_read, and_read, not_read, all_read, deadline_read, plain, negated, wait_read, ended_read, group_read, leaf_template_read, node_step, expr_step}
 use Rattle.listener_check.specs.Terms as reading
-use Rattle.listener_check.specs.Went.{went, ◌>>=◌}
-use Rattle.stmt_check.specs.Captures.{event_names}
-use Rattle.program_laws.specs.Known.{KnowsTable, KnowsNamed}
+use Rattle.listener_check.specs.Went.{◌>>=◌}
 use Rattle.program_laws.proofs.Terms.Thus.{Thus, thus_went, thus_then, thus_behind}
 use Rattle.program_laws.proofs.Terms.Counted.{Used, duration_used}
 use Rattle.program_laws.proofs.Terms.CountsRead.{Counts, counts_none, counts_on, counts_as, used_counts, leaf_counts, OfTemplate, typed_count, ruled, CountsTerm, made_counts, total_is, PartCounts, each_count, each_behind_count, Together, together, chain_counts}

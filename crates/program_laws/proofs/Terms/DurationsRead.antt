@@ -1,33 +1,19 @@
 -- A duration without faults is an integer at its place.
-use Rattle.std.proofs.Common.{◌≡◌, ℕ, Bool, true, false, List, [], Option, Some, None, is_some, refl, sym, ap, subst, ◌∙◌, if◌then◌else◌}
+use Rattle.program_laws.proofs.Common.{◌≡◌, ℕ, Bool, true, false, List, [], Option, Some, None, is_some, refl, sym, ap, subst, ◌∙◌, if◌then◌else◌, and_from, Spot, Shape, Duration, DurationNode, Expr, TypedExpr, same, Names, holds, shape_of, if_known, given_is, Scope, Table, KnowsTable, KnowsNamed, Sofar, is_own, decimal_by, tenths, tenths_of, expr_names, duration_names}
 use Rattle.std.specs.Prelude.{pos}
-use Rattle.std.proofs.lemmas.Bool.{and_from}
-use Rattle.span_text.specs.declared.spot.Spot.{Spot}
-use Rattle.epl_values.specs.declared.shape.Shape.{Shape}
 use Rattle.epl_values.specs.declared.shape.Shape.TheVariants as shape
-use Rattle.epl_tree.specs.declared.event.Duration.{Duration}
-use Rattle.epl_tree.specs.declared.event.DurationNode.{DurationNode}
 use Rattle.epl_tree.specs.declared.event.DurationNode.TheVariants as node
-use Rattle.epl_tree.specs.declared.expression.Expr.{Expr}
-use Rattle.typed_program.specs.declared.expression.TypedExpr.{TypedExpr}
 use Rattle.typed_program.specs.declared.expression.TypedNode.TheVariants as made
 use Rattle.typed_program.specs.declared.expression.TypedNode.TheOpen as typed
-use Rattle.typed_program.specs.Shapes.{same}
-use Rattle.typed_program.specs.Expressions.{Names, holds, shape_of, if_known}
-use Rattle.typed_program.specs.Terms.{Around, given_is}
-use Rattle.type_table.specs.declared.scope.Scope.{Scope}
-use Rattle.type_table.specs.declared.table.Table.{Table}
-use Rattle.program_laws.specs.Known.{KnowsTable, KnowsNamed}
-use Rattle.listener_check.specs.declared.sofar.Sofar.{Sofar}
+use Rattle.typed_program.specs.Terms.{Around}
 use Rattle.listener_check.specs.declared.value.Naming.TheVariants as naming
-use Rattle.listener_check.specs.Bound.{is_own}
-use Rattle.listener_check.specs.Durations.{digits_found, decimal_by, point_in, tenths, tenths_of, length_found, duration_read}
+use Rattle.listener_check.specs.Durations.{digits_found, point_in, length_found, duration_read}
 use Rattle.listener_check.specs.Limits.{sum_read}
 use Rattle.listener_check.specs.Names.{mentions}
 use Rattle.listener_check.specs.Operands.{placed}
 use Rattle.listener_check.specs.Values.{exactly, named_value}
 use Rattle.listener_check.specs.Went.{given, ◌>>=◌}
-use Rattle.stmt_check.specs.Captures.{expr_names, duration_node, duration_names}
+use Rattle.stmt_check.specs.Captures.{duration_node}
 use Rattle.program_laws.proofs.Exprs.Sure.{Sure}
 use Rattle.program_laws.proofs.Exprs.Alike.{same_self}
 use Rattle.program_laws.proofs.Exprs.Standing.{integer_stands}

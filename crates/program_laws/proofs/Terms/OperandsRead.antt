@@ -1,33 +1,13 @@
 -- An operand without faults is of the shape that its field has.
-use Rattle.std.proofs.Common.{◌≡◌, ℕ, Bool, true, false, ◌&&◌, not, List, [], ◌∷◌, ◌<◌, length, Option, refl, ap, ◌∙◌, if◌then◌else◌}
-use Rattle.std.proofs.lemmas.Bool.{and_parts, not-true}
-use Rattle.epl_values.specs.declared.shape.Shape.{Shape}
-use Rattle.epl_tree.specs.declared.expression.Expr.{Expr, out-Expr}
+use Rattle.program_laws.proofs.Common.{◌≡◌, ℕ, Bool, true, false, ◌&&◌, not, List, [], ◌∷◌, ◌<◌, length, Option, refl, ap, ◌∙◌, if◌then◌else◌, and_parts, not-true, Shape, Expr, out-Expr, Suffix, Link, out-Link, Operator, TypedExpr, Operand, same, stands, Names, shape_of, if_known, path_is, Scope, Table, Exactly, typed_of, KnowsTable, KnowsNamed, Sofar, Naming, is_own, bound, Layer, layer_of, is_path_of, sign_naming, links_naming, form_layer, naming_of, Went, expr_names}
 use Rattle.epl_tree.specs.declared.expression.ExprNode.TheOpen as node
-use Rattle.epl_tree.specs.declared.expression.Suffix.{Suffix}
-use Rattle.epl_tree.specs.declared.expression.Link.{Link, out-Link}
-use Rattle.epl_tree.specs.declared.expression.Operator.{Operator}
 use Rattle.epl_tree.specs.declared.expression.Operator.TheVariants as operator
-use Rattle.typed_program.specs.declared.expression.TypedExpr.{TypedExpr}
-use Rattle.typed_program.specs.declared.term.Operand.{Operand}
-use Rattle.typed_program.specs.Shapes.{same, stands}
-use Rattle.typed_program.specs.Expressions.{Names, shape_of, if_known}
-use Rattle.typed_program.specs.Terms.{path_is}
-use Rattle.type_table.specs.declared.scope.Scope.{Scope}
-use Rattle.type_table.specs.declared.table.Table.{Table}
-use Rattle.expr_rules.specs.Asked.{Exactly}
-use Rattle.expr_check.specs.Expressions.{part_of, typed_of}
-use Rattle.program_laws.specs.Known.{KnowsTable, KnowsNamed}
-use Rattle.listener_check.specs.declared.sofar.Sofar.{Sofar}
-use Rattle.listener_check.specs.declared.value.Naming.{Naming}
+use Rattle.expr_check.specs.Expressions.{part_of}
 use Rattle.listener_check.specs.declared.value.Naming.TheVariants as naming
-use Rattle.listener_check.specs.Bound.{is_own}
 use Rattle.listener_check.specs.Limits.{sum_read}
 use Rattle.listener_check.specs.Names.{mentions}
-use Rattle.listener_check.specs.Operands.{path_in, bound, operand_of, named_operand, operand_read, is_integer}
-use Rattle.listener_check.specs.Values.{Layer, layer_of, is_path, is_path_of, sign_naming, links_naming, form_layer, form_of, naming_of, exactly, named_value}
-use Rattle.listener_check.specs.Went.{Went}
-use Rattle.stmt_check.specs.Captures.{expr_names}
+use Rattle.listener_check.specs.Operands.{path_in, operand_of, named_operand, operand_read, is_integer}
+use Rattle.listener_check.specs.Values.{is_path, form_of, exactly, named_value}
 use Rattle.program_laws.proofs.Exprs.Sure.{sure_then, sure_sound}
 use Rattle.program_laws.proofs.Exprs.Answering.{Answering}
 use Rattle.program_laws.proofs.Terms.Paths.{Reaching}

@@ -1,47 +1,20 @@
 -- A path of fields from a bound name reaches the shape that stands at it.
-use Rattle.std.proofs.Common.{◌≡◌, ℕ, min, Bool, true, false, List, [], ◌∷◌, ◌++◌, length, Option, Some, None, slice_get, refl, sym, ap, subst, ◌∙◌, true≢false, arith}
-use Rattle.std.specs.List.{AllByRecursion}
-use Rattle.std.proofs.lemmas.Grind.{flat_map-append}
-use Rattle.std.proofs.lemmas.Option.{slice_get_within}
-use Rattle.span_text.specs.declared.spot.Spot.{Spot}
-use Rattle.epl_values.specs.declared.shape.Field.{Field}
-use Rattle.epl_values.specs.declared.shape.EventShape.{EventShape}
-use Rattle.epl_values.specs.declared.shape.Shape.{Shape, Shape-F, out-Shape}
+use Rattle.program_laws.proofs.Common.{◌≡◌, ℕ, min, Bool, true, false, List, [], ◌∷◌, ◌++◌, length, Option, Some, None, slice_get, refl, sym, ap, subst, ◌∙◌, true≢false, arith, AllByRecursion, flat_map-append, slice_get_within, Spot, Field, EventShape, Shape, Shape-F, out-Shape, Expr, out-Expr, fold_out-Expr, ExprNode, ExprNode-F, map-ExprNode, fold-ExprNode, fold_out-ExprNode, Suffix, out-Suffix, fold_out-Suffix, SuffixNode, SuffixNode-F, out-SuffixNode, map-SuffixNode, fold-SuffixNode, fold_out-SuffixNode, Entry, Link, roll-TypedExpr, out-roll-TypedExpr, out-TypedNode, TypedSuffix, roll-TypedSuffix, TypedSuffixNode, Names, shape_of, field_shape, shape_in, Scope, Table, Reach, Judged, Root, Walk, Demand, fields_at, Pair, Part, Linked, shape_given, Step, walked, missing_field, field_reach, field_named, field_found, demand_before, walk_start, step_found, postfix_found, Node, StepNode, node_step, suffix_node_step, entry_step, expr_step, link_step, suffix_step, link_part, entry_part, KnowsTable, KnowsType, path_layer, Layer, layer_of, is_field_layer}
 use Rattle.epl_values.specs.declared.shape.Shape.TheOpen as layer
-use Rattle.epl_tree.specs.declared.expression.Expr.{Expr, out-Expr, fold_out-Expr}
-use Rattle.epl_tree.specs.declared.expression.ExprNode.{ExprNode, ExprNode-F, map-ExprNode, fold-ExprNode, fold_out-ExprNode}
 use Rattle.epl_tree.specs.declared.expression.ExprNode.TheOpen as node
-use Rattle.epl_tree.specs.declared.expression.Suffix.{Suffix, out-Suffix, fold_out-Suffix}
-use Rattle.epl_tree.specs.declared.expression.SuffixNode.{SuffixNode, SuffixNode-F, out-SuffixNode, map-SuffixNode, fold-SuffixNode, fold_out-SuffixNode}
-use Rattle.epl_tree.specs.declared.expression.Entry.{Entry}
-use Rattle.epl_tree.specs.declared.expression.Link.{Link}
-use Rattle.typed_program.specs.declared.expression.TypedExpr.{roll-TypedExpr, out-roll-TypedExpr}
-use Rattle.typed_program.specs.declared.expression.TypedNode.{out-TypedNode}
 use Rattle.typed_program.specs.declared.expression.TypedNode.TheVariants as made
-use Rattle.typed_program.specs.declared.expression.TypedSuffix.{TypedSuffix, roll-TypedSuffix, out-roll-TypedSuffix}
-use Rattle.typed_program.specs.declared.expression.TypedSuffixNode.{TypedSuffixNode, out-TypedSuffixNode}
+use Rattle.typed_program.specs.declared.expression.TypedSuffix.{out-roll-TypedSuffix}
+use Rattle.typed_program.specs.declared.expression.TypedSuffixNode.{out-TypedSuffixNode}
 use Rattle.typed_program.specs.declared.expression.TypedSuffixNode.TheVariants as suffix
-use Rattle.typed_program.specs.Expressions.{Names, shape_of, field_shape, shape_in}
 use Rattle.typed_program.specs.Expressions.{fields_at as typed_fields_at}
 use Rattle.typed_program.specs.Terms.{field_from, reached}
-use Rattle.type_table.specs.declared.scope.Scope.{Scope}
-use Rattle.type_table.specs.declared.table.Table.{Table}
-use Rattle.expr_rules.specs.declared.methods.Reach.{Reach}
-use Rattle.expr_rules.specs.declared.placed.Judged.{Judged}
-use Rattle.expr_rules.specs.declared.placed.Root.{Root}
 use Rattle.expr_rules.specs.declared.steps.StepKind.TheVariants as step
-use Rattle.expr_rules.specs.declared.steps.Walk.{Walk}
-use Rattle.expr_rules.specs.Asked.{Demand}
-use Rattle.expr_rules.specs.Calls.{fields_at}
-use Rattle.expr_rules.specs.Literals.{Pair}
-use Rattle.expr_rules.specs.Operators.{Part, Linked}
-use Rattle.expr_rules.specs.Places.{placed, shape_given}
-use Rattle.expr_rules.specs.Postfix.{Step, reached as step_reached, walked, missing_field, field_reach, field_at, place_of as field_place, field_named, field_in as field_layer_in, field_of, field_found, demand_before, walk_start, step_found, postfix_of, walked_from, postfix_rest, postfix_found}
+use Rattle.expr_rules.specs.Places.{placed}
+use Rattle.expr_rules.specs.Postfix.{reached as step_reached, field_at, place_of as field_place, field_in as field_layer_in, field_of, postfix_of, walked_from, postfix_rest}
 use Rattle.expr_rules.specs.Then.{through}
-use Rattle.expr_check.specs.Expressions.{Node, StepNode, node_step, suffix_node_step, entry_step, expr_step, link_step, suffix_step, part_of, link_part, entry_part, step_of}
-use Rattle.program_laws.specs.Known.{KnowsTable, KnowsType}
-use Rattle.listener_check.specs.Operands.{place_of, fields_in, field_in, field_layer, path_in, path_layer}
-use Rattle.listener_check.specs.Values.{Layer, layer_of, is_field, is_field_layer}
+use Rattle.expr_check.specs.Expressions.{part_of, step_of}
+use Rattle.listener_check.specs.Operands.{place_of, fields_in, field_in, field_layer, path_in}
+use Rattle.listener_check.specs.Values.{is_field}
 use Rattle.program_laws.proofs.Exprs.Sure.{Sure, sure_then, sure_sound}
 use Rattle.program_laws.proofs.Exprs.Answering.{placed_sure}
 use Rattle.program_laws.proofs.Shapes.Lists.{all_at}

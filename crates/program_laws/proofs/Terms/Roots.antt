@@ -1,36 +1,15 @@
 -- A path from a bound name answers where the bound names are all that is known, and it reaches the shape that stands at it.
-use Rattle.std.proofs.Common.{◌≡◌, ℕ, zero, suc, true, false, not, List, [], ◌∷◌, map, length, Option, Some, is_some, slice_get, refl, sym, ap, subst, ◌∙◌, true≢false, arith}
-use Rattle.std.specs.List.{AllByRecursion, list_all}
-use Rattle.std.proofs.Math.Seq.{drop-append_seam}
-use Rattle.std.proofs.lemmas.Bool.{and_parts, lt-ltb, not-true}
-use Rattle.span_text.specs.declared.spot.Spot.{Spot}
-use Rattle.epl_values.specs.declared.shape.Shape.{Shape}
+use Rattle.program_laws.proofs.Common.{◌≡◌, ℕ, zero, suc, true, false, not, List, [], ◌∷◌, map, length, Option, Some, is_some, slice_get, refl, sym, ap, subst, ◌∙◌, true≢false, arith, AllByRecursion, list_all, drop-append_seam, and_parts, lt-ltb, not-true, Spot, Shape, Expr, out-Expr, Suffix, roll-TypedExpr, out-roll-TypedExpr, out-TypedNode, Local, Names, Scope, Seen, SeenKind, Table, seen_of, Demand, seen, name_found, variable, Part, shape_given, known, Step, Knows, KnowsTable, KnowsName, by_number, is_own, is_among, bound_of, local_of, local_shape, place_layer, Layer, layer_of, is_root_layer, is_path_of, is_path_layer}
 use Rattle.epl_values.specs.declared.shape.Shape.TheVariants as shape
-use Rattle.epl_tree.specs.declared.expression.Expr.{Expr, out-Expr}
 use Rattle.epl_tree.specs.declared.expression.ExprNode.TheOpen as node
-use Rattle.epl_tree.specs.declared.expression.Suffix.{Suffix}
-use Rattle.typed_program.specs.declared.expression.TypedExpr.{roll-TypedExpr, out-roll-TypedExpr}
-use Rattle.typed_program.specs.declared.expression.TypedNode.{out-TypedNode}
 use Rattle.typed_program.specs.declared.expression.TypedNode.TheVariants as made
-use Rattle.typed_program.specs.declared.program.Local.{Local}
-use Rattle.typed_program.specs.Expressions.{Names}
-use Rattle.type_table.specs.declared.scope.Scope.{Scope}
-use Rattle.type_table.specs.declared.scope.Seen.{Seen}
-use Rattle.type_table.specs.declared.scope.SeenKind.{SeenKind}
 use Rattle.type_table.specs.declared.scope.SeenKind.TheVariants as kind
-use Rattle.type_table.specs.declared.table.Table.{Table}
-use Rattle.type_table.specs.Table.{seen_of}
-use Rattle.expr_rules.specs.Asked.{Demand}
-use Rattle.expr_rules.specs.Names.{seen, name_found, variable}
-use Rattle.expr_rules.specs.Operators.{Part}
-use Rattle.expr_rules.specs.Places.{placed, shape_given, known}
-use Rattle.expr_rules.specs.Postfix.{Step, leads}
+use Rattle.expr_rules.specs.Places.{placed}
+use Rattle.expr_rules.specs.Postfix.{leads}
 use Rattle.expr_rules.specs.Then.{and_then}
 use Rattle.expr_check.specs.Expressions.{part_of, step_of}
-use Rattle.program_laws.specs.Known.{Knows, KnowsTable, KnowsName, by_number}
-use Rattle.listener_check.specs.Bound.{is_own, is_among, bound_of, local_of, local_shape}
-use Rattle.listener_check.specs.Operands.{place_of, place_layer}
-use Rattle.listener_check.specs.Values.{Layer, layer_of, is_field, is_left, is_root, is_root_layer, is_path, is_path_of, is_path_layer}
+use Rattle.listener_check.specs.Operands.{place_of}
+use Rattle.listener_check.specs.Values.{is_field, is_left, is_root, is_path}
 use Rattle.program_laws.proofs.Exprs.Sure.{Sure}
 use Rattle.program_laws.proofs.Exprs.Standing.{event_stands}
 use Rattle.program_laws.proofs.Exprs.Answering.{Answers}

@@ -1,20 +1,6 @@
 -- An event expression in which no fault is found, where those names are known that it names: its shapes, its operands and its bound names.
-use Rattle.std.proofs.Common.{◌≡◌, ◌≤◌, true, false, List, [], ◌++◌, map, length, refl, sym, ap, ◌∙◌, arith}
-use Rattle.std.specs.List.{list_all}
-use Rattle.std.proofs.Math.Seq.{drop-append_seam}
-use Rattle.std.proofs.lemmas.List.{append-nil, length-map}
-use Rattle.epl_tree.specs.declared.event.EventExpr.{EventExpr}
-use Rattle.typed_program.specs.declared.expression.TypedExpr.{TypedExpr}
-use Rattle.typed_program.specs.declared.program.Local.{Local}
-use Rattle.typed_program.specs.Expressions.{Names, shape_of}
-use Rattle.typed_program.specs.Terms.{Around, fits_term}
-use Rattle.type_table.specs.declared.scope.Scope.{Scope}
-use Rattle.type_table.specs.declared.scope.Seen.{Seen}
-use Rattle.type_table.specs.declared.table.Table.{Table}
-use Rattle.program_laws.specs.Known.{KnowsTable, KnowsNamed}
-use Rattle.listener_check.specs.Bound.{inner_of, bound_of, local_of}
-use Rattle.listener_check.specs.Terms.{term_read, nothing_yet, term_found}
-use Rattle.stmt_check.specs.Captures.{event_names}
+use Rattle.program_laws.proofs.Common.{◌≡◌, ◌≤◌, true, false, List, [], ◌++◌, map, length, refl, sym, ap, ◌∙◌, arith, list_all, drop-append_seam, append-nil, length-map, EventExpr, TypedExpr, Local, Names, shape_of, fits_term, Scope, Seen, Table, KnowsTable, KnowsNamed, inner_of, bound_of, local_of, term_read, nothing_yet, term_found, event_names}
+use Rattle.typed_program.specs.Terms.{Around}
 use Rattle.program_laws.proofs.Terms.Bounds.{Numbered}
 use Rattle.program_laws.proofs.Terms.Binding.{grows_self}
 use Rattle.program_laws.proofs.Terms.States.{Settled, State, present, around}

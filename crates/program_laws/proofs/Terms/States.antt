@@ -1,22 +1,8 @@
 -- What stands in front of a part of an event expression, and what holds of a part behind it.
-use Rattle.std.proofs.Common.{◌≡◌, ℕ, ◌<◌, ◌≤◌, Bool, true, ◌&&◌, nat_le, List, [], ◌∷◌, ◌++◌, map, length, Some, is_some, slice_get, refl, sym, ap, subst, ◌∙◌, arith, append_assoc}
-use Rattle.std.specs.List.{list_all}
-use Rattle.std.proofs.lemmas.Bool.{and_from}
-use Rattle.std.proofs.lemmas.Bool.Decides.{nat_tests}
-use Rattle.std.proofs.lemmas.List.{length_push, append-nil}
-use Rattle.std.proofs.lemmas.List.Folds.{list_all-append}
-use Rattle.span_text.specs.declared.spot.Spot.{Spot}
-use Rattle.typed_program.specs.declared.expression.TypedExpr.{TypedExpr}
-use Rattle.typed_program.specs.Expressions.{Names, holds, shape_of}
+use Rattle.program_laws.proofs.Common.{◌≡◌, ℕ, ◌<◌, ◌≤◌, Bool, true, ◌&&◌, nat_le, List, [], ◌∷◌, ◌++◌, map, length, Some, is_some, slice_get, refl, sym, ap, subst, ◌∙◌, arith, append_assoc, list_all, and_from, nat_tests, length_push, append-nil, list_all-append, Spot, TypedExpr, Names, holds, shape_of, Scope, Seen, told, Sofar, bound_of, leaf_codes, with_leaf, sum_codes, with_sum, went}
 use Rattle.typed_program.specs.Terms.{Around}
-use Rattle.type_table.specs.declared.scope.Scope.{Scope}
-use Rattle.type_table.specs.declared.scope.Seen.{Seen}
-use Rattle.type_table.specs.Found.{told}
-use Rattle.listener_check.specs.declared.sofar.Sofar.{Sofar}
-use Rattle.listener_check.specs.Bound.{bound_of}
-use Rattle.listener_check.specs.Limits.{short, leaf_read, leaf_codes, with_leaf, sum_read, sum_codes, with_sum}
+use Rattle.listener_check.specs.Limits.{short, leaf_read, sum_read}
 use Rattle.listener_check.specs.Operands.{placed}
-use Rattle.listener_check.specs.Went.{went}
 use Rattle.program_laws.proofs.Shapes.Lists.{no_told, no_if}
 use Rattle.program_laws.proofs.Terms.Thus.{Thus, thus_went, thus_behind}
 use Rattle.program_laws.proofs.Terms.Bounds.{widened, Numbered}

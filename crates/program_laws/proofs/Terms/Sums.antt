@@ -1,55 +1,27 @@
 -- A path with an integer more or less: both are integers.
-use Rattle.std.proofs.Common.{◌≡◌, ℕ, true, false, ◌&&◌, List, [], ◌∷◌, ◌++◌, ◌<◌, length, Option, Some, None, is_some, refl, sym, ap, subst, ◌∙◌, true≢false, ◌⊎◌, inl, inr}
-use Rattle.std.proofs.lemmas.Bool.{and_parts, and_from}
-use Rattle.span_text.specs.declared.spot.Spot.{Spot}
-use Rattle.epl_values.specs.declared.shape.Shape.{Shape, Shape-F, out-Shape}
+use Rattle.program_laws.proofs.Common.{◌≡◌, ℕ, true, false, ◌&&◌, List, [], ◌∷◌, ◌++◌, ◌<◌, length, Option, Some, None, is_some, refl, sym, ap, subst, ◌∙◌, true≢false, ◌⊎◌, inl, inr, and_parts, and_from, Spot, Shape, Shape-F, out-Shape, Entry, Expr, out-Expr, fold_out-Expr, ExprNode, ExprNode-F, map-ExprNode, fold-ExprNode, fold_out-ExprNode, Link, out-Link, fold_out-Link, Operator, Suffix, SuffixNode, fold-SuffixNode, TypedExpr, roll-TypedExpr, out-roll-TypedExpr, out-TypedNode, TypedLink, out-TypedLink, roll-TypedLink, out-roll-TypedLink, same, Names, holds, shape_of, if_known, operand_so, path_is, given_is, Scope, Table, LinkChain, Sort, Judged, Demand, Exactly, Value, Pair, Step, Part, Linked, sort_of_expr, addable, given_by, linked, operated, links_start, links_found, link_found, with_link, judged, shape_given, key_codes, misfit_codes, path_codes, given_codes, Node, StepNode, node_step, suffix_node_step, entry_step, expr_step, link_step, suffix_step, link_part, typed_of, expr_found, KnowsTable, KnowsNamed, Sofar, Reached, is_own, sum_layer, Layer, layer_of, went, any_of, expr_node, expr_names, suffix_names, link_names, entry_names}
 use Rattle.epl_values.specs.declared.shape.Shape.TheVariants as shape
 use Rattle.epl_values.specs.declared.shape.Shape.TheOpen as layer
-use Rattle.epl_tree.specs.declared.expression.Entry.{Entry}
-use Rattle.epl_tree.specs.declared.expression.Expr.{Expr, out-Expr, fold_out-Expr}
-use Rattle.epl_tree.specs.declared.expression.ExprNode.{ExprNode, ExprNode-F, map-ExprNode, fold-ExprNode, fold_out-ExprNode}
 use Rattle.epl_tree.specs.declared.expression.ExprNode.TheOpen as node
-use Rattle.epl_tree.specs.declared.expression.Link.{Link, out-Link, fold_out-Link}
-use Rattle.epl_tree.specs.declared.expression.Operator.{Operator}
-use Rattle.epl_tree.specs.declared.expression.Suffix.{Suffix}
-use Rattle.epl_tree.specs.declared.expression.SuffixNode.{SuffixNode, fold-SuffixNode}
-use Rattle.typed_program.specs.declared.expression.TypedExpr.{TypedExpr, roll-TypedExpr, out-roll-TypedExpr}
-use Rattle.typed_program.specs.declared.expression.TypedNode.{out-TypedNode}
 use Rattle.typed_program.specs.declared.expression.TypedNode.TheVariants as made
 use Rattle.typed_program.specs.declared.expression.TypedNode.TheOpen as typed
-use Rattle.typed_program.specs.declared.expression.TypedLink.{TypedLink, out-TypedLink, roll-TypedLink, out-roll-TypedLink}
-use Rattle.typed_program.specs.Shapes.{same}
-use Rattle.typed_program.specs.Expressions.{Names, holds, shape_of, if_known}
-use Rattle.typed_program.specs.Terms.{Around, operand_so, path_is, given_is}
-use Rattle.type_table.specs.declared.scope.Scope.{Scope}
-use Rattle.type_table.specs.declared.table.Table.{Table}
+use Rattle.typed_program.specs.Terms.{Around}
 use Rattle.expr_rules.specs.declared.operators.Level.TheVariants as level
-use Rattle.expr_rules.specs.declared.operators.LinkChain.{LinkChain}
-use Rattle.expr_rules.specs.declared.operators.Sort.{Sort}
 use Rattle.expr_rules.specs.declared.operators.Sort.TheVariants as sort
 use Rattle.expr_rules.specs.declared.asked.Paths.TheVariants as paths
 use Rattle.expr_rules.specs.declared.placed.Gives.TheVariants as gives
-use Rattle.expr_rules.specs.declared.placed.Judged.{Judged}
-use Rattle.expr_rules.specs.Asked.{Demand, Exactly, Value}
 use Rattle.expr_rules.specs.Asked.{operand as operand_demand}
-use Rattle.expr_rules.specs.Literals.{Pair}
-use Rattle.expr_rules.specs.Postfix.{Step}
-use Rattle.expr_rules.specs.Operators.{Part, Linked, sort_of_expr, addable, given_by, linked, operated, paired, links_of, links_start, links_rest, links_found, link_of, link_found, with_link}
-use Rattle.expr_rules.specs.Places.{placed as node_placed, judged, shape_given, key_codes, misfit_codes, path_codes, given_codes}
+use Rattle.expr_rules.specs.Operators.{paired, links_of, links_rest, link_of}
+use Rattle.expr_rules.specs.Places.{placed as node_placed}
 use Rattle.expr_rules.specs.Then.{through}
-use Rattle.expr_check.specs.Expressions.{Node, StepNode, node_step, suffix_node_step, entry_step, expr_step, link_step, suffix_step, part_of, link_part, typed_of, expr_found}
-use Rattle.program_laws.specs.Known.{KnowsTable, KnowsNamed}
-use Rattle.listener_check.specs.declared.sofar.Sofar.{Sofar}
-use Rattle.listener_check.specs.declared.operand.Reached.{Reached}
+use Rattle.expr_check.specs.Expressions.{part_of}
 use Rattle.listener_check.specs.declared.value.Naming.{Naming as Form}
 use Rattle.listener_check.specs.declared.value.Naming.TheVariants as naming
-use Rattle.listener_check.specs.Bound.{is_own}
 use Rattle.listener_check.specs.Names.{mentions}
-use Rattle.listener_check.specs.Operands.{path_in, placed, signed, added_operand, sum_layer, sum_operand, operand_of, named_operand, is_integer, is_integer_layer}
+use Rattle.listener_check.specs.Operands.{path_in, placed, signed, added_operand, sum_operand, operand_of, named_operand, is_integer, is_integer_layer}
 use Rattle.listener_check.specs.Operands as reading
-use Rattle.listener_check.specs.Values.{Layer, layer_of, is_path, exactly, named_value}
-use Rattle.listener_check.specs.Went.{went}
-use Rattle.stmt_check.specs.Captures.{any_of, expr_node, suffix_node, expr_names, suffix_names, link_names, entry_names, entry_step as entry_naming, expr_step as expr_naming, link_step as link_naming, suffix_step as suffix_naming}
+use Rattle.listener_check.specs.Values.{is_path, exactly, named_value}
+use Rattle.stmt_check.specs.Captures.{suffix_node, entry_step as entry_naming, expr_step as expr_naming, link_step as link_naming, suffix_step as suffix_naming}
 use Rattle.stmt_check.specs.Captures.{Names as Naming}
 use Rattle.program_laws.proofs.Exprs.Sure.{Sure, sure_then, sure_sound}
 use Rattle.program_laws.proofs.Exprs.Alike.{same_is, same_self}

@@ -1,35 +1,12 @@
 -- A template without faults has its shape, and binds its name to its event.
-use Rattle.std.proofs.Common.{◌≡◌, ℕ, ◌<◌, Bool, true, ◌&&◌, List, [], ◌∷◌, ◌++◌, map, length, Option, Some, None, slice_get, refl, sym, ap, subst, ◌∙◌, arith}
-use Rattle.std.specs.List.{list_all}
-use Rattle.std.proofs.lemmas.Bool.{and_from, and_parts}
-use Rattle.span_text.specs.declared.spot.Spot.{Spot}
-use Rattle.epl_values.specs.declared.shape.Field.{Field}
-use Rattle.epl_values.specs.declared.shape.EventShape.{EventShape}
-use Rattle.epl_values.specs.declared.shape.Shape.{Shape}
+use Rattle.program_laws.proofs.Common.{◌≡◌, ℕ, ◌<◌, Bool, true, ◌&&◌, List, [], ◌∷◌, ◌++◌, map, length, Option, Some, None, slice_get, refl, sym, ap, subst, ◌∙◌, arith, list_all, and_from, and_parts, Spot, Field, EventShape, Shape, Template, TemplateClause, TypedExpr, TemplateShape, same, Names, if_known, constraint_so, duration_so, Scope, Table, told, event_of, KnowsTable, KnowsNamed, Done, Sofar, Clauses, clause_binds, clauses_bind, constraints_read, fields_of, no_clauses, clauses_read, template_of, template_read, went, any_of, constraint_names, clause_names, template_names}
 use Rattle.epl_values.specs.declared.shape.Shape.TheVariants as shape
-use Rattle.epl_tree.specs.declared.event.Template.{Template}
-use Rattle.epl_tree.specs.declared.event.TemplateClause.{TemplateClause}
 use Rattle.epl_tree.specs.declared.event.TemplateClause.TheVariants as clause
-use Rattle.typed_program.specs.declared.expression.TypedExpr.{TypedExpr}
-use Rattle.typed_program.specs.declared.term.TemplateShape.{TemplateShape}
-use Rattle.typed_program.specs.Shapes.{same}
-use Rattle.typed_program.specs.Expressions.{Names, if_known}
-use Rattle.typed_program.specs.Terms.{Around, constraint_so, duration_so, binds_so, is_there, template_so}
-use Rattle.type_table.specs.declared.scope.Scope.{Scope}
-use Rattle.type_table.specs.declared.table.Table.{Table}
-use Rattle.type_table.specs.Found.{told}
-use Rattle.type_table.specs.Table.{event_of}
-use Rattle.program_laws.specs.Known.{KnowsTable, KnowsNamed}
-use Rattle.listener_check.specs.declared.constraint.Done.{Done}
-use Rattle.listener_check.specs.declared.sofar.Sofar.{Sofar}
-use Rattle.listener_check.specs.declared.template.Clauses.{Clauses}
-use Rattle.listener_check.specs.Bound.{clause_binds, clauses_bind}
-use Rattle.listener_check.specs.Constraints.{constraints_read}
+use Rattle.typed_program.specs.Terms.{Around, binds_so, is_there, template_so}
 use Rattle.listener_check.specs.Durations.{duration_read}
 use Rattle.listener_check.specs.Limits.{short, leaf_read}
-use Rattle.listener_check.specs.Templates.{fields_of, name_read, no_clauses, clause_read, clauses_read, template_of, parts_read, typed_read, template_read}
-use Rattle.listener_check.specs.Went.{went, through, ◌>>=◌}
-use Rattle.stmt_check.specs.Captures.{any_of, constraint_names, clause_names, template_names}
+use Rattle.listener_check.specs.Templates.{name_read, clause_read, parts_read, typed_read}
+use Rattle.listener_check.specs.Went.{through, ◌>>=◌}
 use Rattle.program_laws.proofs.Exprs.Alike.{same_self}
 use Rattle.program_laws.proofs.Exprs.Calls.{event_numbered}
 use Rattle.program_laws.proofs.Exprs.Knowing.{knows_left, knows_right, knows_first, knows_rest}

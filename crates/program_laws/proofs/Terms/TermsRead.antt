@@ -1,32 +1,14 @@
 -- An event expression without faults has its shapes.
-use Rattle.std.proofs.Common.{◌≡◌, ℕ, Bool, true, false, List, [], ◌∷◌, ◌++◌, map, drop, length, Option, Some, None, refl, sym, ap, subst, ◌∙◌}
-use Rattle.std.proofs.lemmas.Bool.{and_from, and_parts}
-use Rattle.span_text.specs.declared.spot.Spot.{Spot}
-use Rattle.epl_tree.specs.declared.event.Duration.{Duration}
-use Rattle.epl_tree.specs.declared.event.Template.{Template}
-use Rattle.epl_tree.specs.declared.event.EventExpr.{EventExpr, EventExpr-F, map-EventExpr, roll-EventExpr, fold-roll-EventExpr}
-use Rattle.epl_tree.specs.declared.event.EventNode.{EventNode, EventNode-F, map-EventNode, roll-EventNode, fold-EventNode, fold-roll-EventNode}
+use Rattle.program_laws.proofs.Common.{◌≡◌, ℕ, Bool, true, false, List, [], ◌∷◌, ◌++◌, map, drop, length, Option, Some, None, refl, sym, ap, subst, ◌∙◌, and_from, and_parts, Spot, Duration, Template, EventExpr, EventExpr-F, map-EventExpr, roll-EventExpr, fold-roll-EventExpr, EventNode, EventNode-F, map-EventNode, roll-EventNode, fold-EventNode, fold-roll-EventNode, ind-EventExpr, TypedExpr, Term, Term-F, map-Term, roll-Term, fold-roll-Term, Names, duration_so, fits_term, Scope, Table, told, KnowsTable, KnowsNamed, Sofar, clauses_bind, template_read, not_codes, each_step, behind_step, each_behind, may_begin, Went, went, either, any_of, duration_names, template_names, limit_names, event_node, event_step, event_names}
 use Rattle.epl_tree.specs.declared.event.EventNode.TheOpen as node
-use Rattle.epl_tree.specs.declared.event.EventNode.TheFolds.{ind-EventExpr}
-use Rattle.typed_program.specs.declared.expression.TypedExpr.{TypedExpr}
-use Rattle.typed_program.specs.declared.term.Term.{Term, Term-F, map-Term, roll-Term, fold-roll-Term}
 use Rattle.typed_program.specs.declared.term.Term.TheVariants as term
 use Rattle.typed_program.specs.declared.term.Term.TheOpen as layer
-use Rattle.typed_program.specs.Expressions.{Names}
-use Rattle.typed_program.specs.Terms.{Around, duration_so, all_hold, term_so, fits_term}
-use Rattle.type_table.specs.declared.scope.Scope.{Scope}
-use Rattle.type_table.specs.declared.table.Table.{Table}
-use Rattle.type_table.specs.Found.{told}
-use Rattle.program_laws.specs.Known.{KnowsTable, KnowsNamed}
-use Rattle.listener_check.specs.declared.sofar.Sofar.{Sofar}
+use Rattle.typed_program.specs.Terms.{Around, all_hold, term_so}
 use Rattle.listener_check.specs.Bound as bound
-use Rattle.listener_check.specs.Bound.{clauses_bind}
 use Rattle.listener_check.specs.Durations.{duration_read}
 use Rattle.listener_check.specs.Limits.{leaf_read}
-use Rattle.listener_check.specs.Templates.{template_read}
-use Rattle.listener_check.specs.Terms.{Reading, Part, not_codes, each_step, each, behind_step, each_behind, followed_behind, followed_read, joined_behind, or_read, xor_read, may_begin, and_read, not_read, all_read, deadline_read, plain, negated, wait_read, ended_read, group_read, leaf_template_read, node_step, expr_step, part_of}
-use Rattle.listener_check.specs.Went.{Went, went, through, ◌>>=◌}
-use Rattle.stmt_check.specs.Captures.{either, any_of, duration_names, template_names, limit_names, event_node, event_step, event_names}
+use Rattle.listener_check.specs.Terms.{Reading, Part, each, followed_behind, followed_read, joined_behind, or_read, xor_read, and_read, not_read, all_read, deadline_read, plain, negated, wait_read, ended_read, group_read, leaf_template_read, node_step, expr_step, part_of}
+use Rattle.listener_check.specs.Went.{through, ◌>>=◌}
 use Rattle.stmt_check.specs.Captures.{Names as Naming}
 use Rattle.program_laws.proofs.Exprs.Knowing.{knows_left, knows_right, knows_first, knows_rest}
 use Rattle.program_laws.proofs.Terms.Binding.{Grows, grows_self, grows_on, clauses_grow}

@@ -1,32 +1,14 @@
 -- A value that names no bound name, and what is read of a value.
-use Rattle.std.proofs.Common.{◌≡◌, Bool, true, false, List, ◌<◌, length, Option, Some, None, is_some, refl, sym, ap, subst, ◌∙◌, true≢false}
-use Rattle.std.proofs.lemmas.Bool.{and_parts, and_from}
-use Rattle.epl_values.specs.declared.shape.Shape.{Shape}
-use Rattle.epl_tree.specs.declared.expression.Expr.{Expr}
-use Rattle.typed_program.specs.declared.expression.TypedExpr.{TypedExpr}
-use Rattle.typed_program.specs.declared.term.Operand.{Operand}
+use Rattle.program_laws.proofs.Common.{◌≡◌, Bool, true, false, List, ◌<◌, length, Option, Some, None, is_some, refl, sym, ap, subst, ◌∙◌, true≢false, and_parts, and_from, Shape, Expr, TypedExpr, Operand, same, stands, Names, holds, shape_of, if_known, operand_so, Scope, Seen, Table, Found, Exactly, Part, typed_of, expr_found, KnowsTable, KnowsNamed, wished, answers, Sofar, Naming, is_own, bound, went, expr_names}
 use Rattle.typed_program.specs.declared.term.Operand.TheVariants as operand
-use Rattle.typed_program.specs.Shapes.{same, stands}
-use Rattle.typed_program.specs.Expressions.{Names, holds, shape_of, if_known}
-use Rattle.typed_program.specs.Terms.{Around, operand_so}
-use Rattle.type_table.specs.declared.scope.Scope.{Scope}
-use Rattle.type_table.specs.declared.scope.Seen.{Seen}
-use Rattle.type_table.specs.declared.table.Table.{Table}
-use Rattle.type_table.specs.Found.{Found}
-use Rattle.expr_rules.specs.Asked.{Exactly}
-use Rattle.expr_rules.specs.Operators.{Part}
+use Rattle.typed_program.specs.Terms.{Around}
 use Rattle.expr_rules.specs.Then.{and_then}
-use Rattle.expr_check.specs.Expressions.{part_of, typed_of, expr_found}
-use Rattle.program_laws.specs.Known.{KnowsTable, KnowsNamed, wished, answers}
-use Rattle.listener_check.specs.declared.sofar.Sofar.{Sofar}
-use Rattle.listener_check.specs.declared.value.Naming.{Naming}
+use Rattle.expr_check.specs.Expressions.{part_of}
 use Rattle.listener_check.specs.declared.value.Naming.TheVariants as naming
-use Rattle.listener_check.specs.Bound.{is_own}
 use Rattle.listener_check.specs.Names.{mentions}
-use Rattle.listener_check.specs.Operands.{placed, given_operand, bound, operand_of, named_operand}
+use Rattle.listener_check.specs.Operands.{placed, given_operand, operand_of, named_operand}
 use Rattle.listener_check.specs.Values.{exactly, named_value}
-use Rattle.listener_check.specs.Went.{went, given}
-use Rattle.stmt_check.specs.Captures.{expr_names}
+use Rattle.listener_check.specs.Went.{given}
 use Rattle.program_laws.proofs.Exprs.Sure.{Sure}
 use Rattle.program_laws.proofs.Exprs.Accepted.{named_expression_answers}
 use Rattle.program_laws.proofs.Terms.Apart.{Alike, apart}
