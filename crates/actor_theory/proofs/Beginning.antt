@@ -1,6 +1,6 @@
 -- The machine at the start, with the loads queued; the items come after boot.
-use Rattle.actor_theory.proofs.Common.{◌≡◌, ℕ, zero, suc, ◌≤◌, ◌<◌, List, [], ◌∷◌, ◌++◌, length, Bool, true, false, ◌==◌, cond, Some, None, refl, sym, ◌∙◌, ap, subst, arith, ◌⊎◌, inl, inr, map, slice_get, IfSome, AllByRecursion, cases_lt, slice_get_past, Entry, mail, loaded, own, start, Slots, Reader, lifted, to_actors, slots_only, without_items, Cell, ReaderCell, cell_log, queue_at, world_of, IsCellOf, Stand, fresh_cells, fresh_reader, loaded_queues}
-use Rattle.std.proofs.Common.{length-append}
+use Rattle.actor_theory.proofs.Common.{ℕ, zero, suc, List, [], length, Bool, true, false, cond, Some, None, refl, sym, ◌∙◌, ap, subst, arith, inl, inr, map, slice_get, IfSome, AllByRecursion, cases_lt, slice_get_past, Entry, mail, loaded, own, start, Slots, Reader, lifted, to_actors, slots_only, without_items, Cell, ReaderCell, cell_log, queue_at, world_of, IsCellOf, Stand, fresh_cells, fresh_reader, loaded_queues}
+use Rattle.std.proofs.Common.{◌≡◌, ◌≤◌, ◌<◌, ◌∷◌, ◌++◌, ◌==◌, ◌⊎◌, length-append}
 use Rattle.actor_theory.specs.World.{given}
 use Rattle.actor_theory.specs.Joined.{joined}
 use Rattle.actor_theory.specs.Machine.{empty_queues}

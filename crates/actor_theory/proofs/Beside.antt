@@ -1,5 +1,6 @@
 -- What parts that run beside each other keep.
-use Rattle.actor_theory.proofs.Common.{◌≡◌, ℕ, ◌≤◌, ◌<◌, List, [], ◌∷◌, ◌++◌, Bool, true, false, ◌==◌, cond, refl, sym, ◌∙◌, ap, append_assoc, append-nil, arith, ◌⊎◌, inl, inr, eqb-true, cases_eq, Entry, Language, Moment, first, next, naive, number_after, mail, reply, replies, sends, by, World, IsFinished, IsUnspentAlong, IsFaithfulRun, IsPrefix, IsBoot, BeginsWithBoot, IsReaderQuiet}
+use Rattle.std.proofs.Common.{◌≡◌, ◌≤◌, ◌<◌, ◌∷◌, ◌++◌, ◌==◌, ◌⊎◌}
+use Rattle.actor_theory.proofs.Common.{ℕ, List, [], Bool, true, false, cond, refl, sym, ◌∙◌, ap, append_assoc, append-nil, arith, inl, inr, eqb-true, cases_eq, Entry, Language, Moment, first, next, naive, number_after, mail, reply, replies, sends, by, World, IsFinished, IsUnspentAlong, IsFaithfulRun, IsPrefix, IsBoot, BeginsWithBoot, IsReaderQuiet}
 use Rattle.actor_theory.specs.Language.{before}
 use Rattle.actor_theory.specs.World.{given}
 use Rattle.actor_theory.specs.Holds.{Holds, Posts, Handles}

@@ -1,5 +1,6 @@
 -- Each entry that was handled has a cause.
-use Rattle.actor_theory.proofs.Common.{◌≡◌, ℕ, ◌<◌, List, [], ◌∷◌, ◌++◌, Bool, true, false, ◌==◌, cond, refl, sym, subst, arith, inl, inr, map, filter, eqb-true, eqb-false, AllByRecursion, Entry, Sent, Language, Moment, first, next, number_after, mail, reply, replies, loaded, sends, by, stamped, is_for, World, IsFaithfulRun, handlings_from, IsCausal}
+use Rattle.std.proofs.Common.{◌≡◌, ◌<◌, ◌∷◌, ◌++◌, ◌==◌}
+use Rattle.actor_theory.proofs.Common.{ℕ, List, [], Bool, true, false, cond, refl, sym, subst, arith, inl, inr, map, filter, eqb-true, eqb-false, AllByRecursion, Entry, Sent, Language, Moment, first, next, number_after, mail, reply, replies, loaded, sends, by, stamped, is_for, World, IsFaithfulRun, handlings_from, IsCausal}
 use Rattle.actor_theory.specs.Language.{before}
 use Rattle.actor_theory.specs.Caused.{HasNumber, IsCaused}
 

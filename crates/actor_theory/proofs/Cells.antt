@@ -1,5 +1,6 @@
 -- Cells stand at their logs.
-use Rattle.actor_theory.proofs.Common.{◌≡◌, ℕ, ◌+◌, ◌<◌, List, [], ◌∷◌, ◌++◌, Bool, true, false, not, ◌&&◌, cond, Option, Some, None, refl, sym, ◌∙◌, ap, subst, max, arith, ◌⊎◌, inr, map, slice_get, IfSome, eq-eqb, ne_eqb, le-leb, map-append, Entry, Handled, ReaderStep, Item, Language, Moment, naive, number_after, number_along, numbers_along, World, own, first_from, finds, Slots, Reader, lifted, slot_after, reader_after, step_entry, step_number, number_of, Cell, ReaderCell, cell_log, queue_at, own_items, world_of, IsCellOf, Stand, cell_after, reader_after_entry, reader_after_item}
+use Rattle.std.proofs.Common.{◌≡◌, ◌+◌, ◌<◌, ◌∷◌, ◌++◌, ◌&&◌, ◌⊎◌}
+use Rattle.actor_theory.proofs.Common.{ℕ, List, [], Bool, true, false, not, cond, Option, Some, None, refl, sym, ◌∙◌, ap, subst, max, arith, inr, map, slice_get, IfSome, eq-eqb, ne_eqb, le-leb, map-append, Entry, Handled, ReaderStep, Item, Language, Moment, naive, number_after, number_along, numbers_along, World, own, first_from, finds, Slots, Reader, lifted, slot_after, reader_after, step_entry, step_number, number_of, Cell, ReaderCell, cell_log, queue_at, own_items, world_of, IsCellOf, Stand, cell_after, reader_after_entry, reader_after_item}
 use Rattle.actor_theory.specs.declared.entry.ReaderStep.TheVariants.{Entry as Taken}
 use Rattle.actor_theory.specs.Joined.{joined}
 use Rattle.actor_theory.specs.Kept.{entry_of}

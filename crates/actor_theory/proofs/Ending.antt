@@ -1,5 +1,6 @@
 -- The machine's record, and what its loops leave.
-use Rattle.actor_theory.proofs.Common.{◌≡◌, ℕ, zero, suc, ◌+◌, ◌≤◌, ◌<◌, List, [], ◌∷◌, ◌++◌, length, Bool, true, false, ◌==◌, cond, Option, Some, None, refl, sym, ◌∙◌, ap, subst, arith, ◌⊎◌, inl, inr, map, slice_get, IfSome, cases_eq, eq-eqb, ne_eqb, Entry, Sent, Moment, mail, World, own, IsQuiet, left_of, Slots, Reader, lifted, SlotKept, Kept, slot_log, slot_left, world_of_kept, IsNaive, IsKept, Cell, ReaderCell, cell_log, queue_at, own_items, world_of, IsCellOf, Stand, delivered, kept_of}
+use Rattle.std.proofs.Common.{◌≡◌, ◌+◌, ◌≤◌, ◌<◌, ◌∷◌, ◌++◌, ◌==◌, ◌⊎◌}
+use Rattle.actor_theory.proofs.Common.{ℕ, zero, suc, List, [], length, Bool, true, false, cond, Option, Some, None, refl, sym, ◌∙◌, ap, subst, arith, inl, inr, map, slice_get, IfSome, cases_eq, eq-eqb, ne_eqb, Entry, Sent, Moment, mail, World, own, IsQuiet, left_of, Slots, Reader, lifted, SlotKept, Kept, slot_log, slot_left, world_of_kept, IsNaive, IsKept, Cell, ReaderCell, cell_log, queue_at, own_items, world_of, IsCellOf, Stand, delivered, kept_of}
 use Rattle.actor_theory.specs.Order.{ordered}
 use Rattle.actor_theory.specs.Joined.{joined}
 use Rattle.actor_theory.specs.Machine.{slot_kept, slots_kept}

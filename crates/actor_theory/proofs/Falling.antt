@@ -1,5 +1,6 @@
 -- A step that finds an entry lowers the potential.
-use Rattle.actor_theory.proofs.Common.{◌≡◌, ℕ, zero, suc, ◌+◌, ◌≤◌, ◌<◌, List, [], ◌∷◌, ◌++◌, Bool, true, false, ◌==◌, cond, Option, Some, None, refl, ◌∙◌, ap, arith, ◌⊎◌, inl, inr, map, filter, eqb-true, eq-eqb, ne_eqb, cases_eq, Entry, Sent, Language, next, first, naive, number_after, stamped, is_for, mail, reply, World, first_from, handled, found, finds, total, entry_cost, IsMeasure, potential, with_front}
+use Rattle.std.proofs.Common.{◌≡◌, ◌+◌, ◌≤◌, ◌<◌, ◌∷◌, ◌++◌, ◌==◌, ◌⊎◌}
+use Rattle.actor_theory.proofs.Common.{ℕ, zero, suc, List, [], Bool, true, false, cond, Option, Some, None, refl, ◌∙◌, ap, arith, inl, inr, map, filter, eqb-true, eq-eqb, ne_eqb, cases_eq, Entry, Sent, Language, next, first, naive, number_after, stamped, is_for, mail, reply, World, first_from, handled, found, finds, total, entry_cost, IsMeasure, potential, with_front}
 use Rattle.actor_theory.specs.Potential.{sum_to, part}
 use Rattle.actor_theory.proofs.Stepping.{finds-some}
 use Rattle.actor_theory.proofs.Running.{open-parts}

@@ -1,5 +1,6 @@
 -- The items come to the reader after boot.
-use Rattle.actor_theory.proofs.Common.{◌≡◌, ℕ, List, [], ◌∷◌, ◌++◌, Bool, true, false, ◌==◌, cond, refl, sym, ◌∙◌, ap, append-nil, map, filter, eqb-true, eqb-false, eq-eqb, ne_eqb, map-append, filter-append, Entry, Language, Sent, first, mail, loaded, replies, sends, by, stamped, is_for, World, own, IsReaderQuiet}
+use Rattle.std.proofs.Common.{◌≡◌, ◌∷◌, ◌++◌, ◌==◌}
+use Rattle.actor_theory.proofs.Common.{ℕ, List, [], Bool, true, false, cond, refl, sym, ◌∙◌, ap, append-nil, map, filter, eqb-true, eqb-false, eq-eqb, ne_eqb, map-append, filter-append, Entry, Language, Sent, first, mail, loaded, replies, sends, by, stamped, is_for, World, own, IsReaderQuiet}
 use Rattle.actor_theory.specs.Language.{to_self, before}
 use Rattle.actor_theory.specs.World.{given}
 use Rattle.actor_theory.proofs.Lists.{by-append, by-cons, by-one_same, by-one_other}

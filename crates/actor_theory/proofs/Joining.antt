@@ -1,5 +1,6 @@
 -- The joined language is that of the contexts at a slot, and that of the reader at the reader.
-use Rattle.actor_theory.proofs.Common.{◌≡◌, ℕ, ◌≤◌, ◌<◌, List, [], ◌∷◌, ◌++◌, Bool, true, false, ◌==◌, nat_le, nat_lt, cond, refl, ◌∙◌, ap, subst, arith, ◌⊎◌, inl, inr, map, filter, eqb-true, eq-eqb, ne_eqb, le-leb, lt-ltb, leb-true, ltb-true, Entry, ReaderStep, Item, Sent, Moment, first, after_all, naive, number_after, number_along, stamped, is_for, mail, replies, own, IsUnspentAlong, IsReaderQuiet, Slots, Reader, lifted, lifted_sent, to_actors, to_slots, slot_after, reader_after, step_entry}
+use Rattle.std.proofs.Common.{◌≡◌, ◌≤◌, ◌<◌, ◌∷◌, ◌++◌, ◌==◌, ◌⊎◌}
+use Rattle.actor_theory.proofs.Common.{ℕ, List, [], Bool, true, false, nat_le, nat_lt, cond, refl, ◌∙◌, ap, subst, arith, inl, inr, map, filter, eqb-true, eq-eqb, ne_eqb, le-leb, lt-ltb, leb-true, ltb-true, Entry, ReaderStep, Item, Sent, Moment, first, after_all, naive, number_after, number_along, stamped, is_for, mail, replies, own, IsUnspentAlong, IsReaderQuiet, Slots, Reader, lifted, lifted_sent, to_actors, to_slots, slot_after, reader_after, step_entry}
 use Rattle.actor_theory.specs.declared.entry.ReaderStep.TheVariants.{Entry as Taken}
 use Rattle.actor_theory.specs.Joined.{joined, reader_next, reader_sent, IsUnspentSlot}
 

@@ -1,5 +1,6 @@
 -- The record of a run, and the run of a record.
-use Rattle.actor_theory.proofs.Common.{◌≡◌, ℕ, zero, suc, ◌<◌, List, [], ◌∷◌, ◌++◌, Bool, true, false, ◌==◌, cond, Option, Some, None, refl, sym, ◌∙◌, ap, subst, append-nil, arith, ◌⊎◌, inl, inr, map, length, slice_get, IfSome, eq-eqb, ne_eqb, cases_eq, slice_get_past, Entry, ReaderStep, Item, Moment, first, naive, by, World, own, IsUnspentAlong, IsFaithfulRun, Slots, Reader, lifted, step_entry, SlotKept, Kept, log_of, slot_log, slot_left, world_of_kept, IsNaive, IsSlotEnded, IsFaithful, IsKept, IsScheduled}
+use Rattle.std.proofs.Common.{◌≡◌, ◌<◌, ◌∷◌, ◌++◌, ◌==◌, ◌⊎◌}
+use Rattle.actor_theory.proofs.Common.{ℕ, zero, suc, List, [], Bool, true, false, cond, Option, Some, None, refl, sym, ◌∙◌, ap, subst, append-nil, arith, inl, inr, map, length, slice_get, IfSome, eq-eqb, ne_eqb, cases_eq, slice_get_past, Entry, ReaderStep, Item, Moment, first, naive, by, World, own, IsUnspentAlong, IsFaithfulRun, Slots, Reader, lifted, step_entry, SlotKept, Kept, log_of, slot_log, slot_left, world_of_kept, IsNaive, IsSlotEnded, IsFaithful, IsKept, IsScheduled}
 use Rattle.actor_theory.specs.declared.entry.ReaderStep.TheVariants.{Entry as Taken}
 use Rattle.actor_theory.specs.Order.{ordered}
 use Rattle.actor_theory.specs.Joined.{joined, items_of}

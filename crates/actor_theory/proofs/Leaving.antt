@@ -1,5 +1,6 @@
 -- What is left, in order of senders.
-use Rattle.actor_theory.proofs.Common.{◌≡◌, ℕ, zero, suc, ◌≤◌, ◌<◌, List, [], ◌∷◌, ◌++◌, Bool, true, false, ◌==◌, cond, refl, sym, ◌∙◌, ap, append-nil, arith, ◌⊎◌, inl, inr, map, eqb-true, cases_lt, Entry, Language, naive, sends, by, World, IsFaithfulRun, left_of, lifted}
+use Rattle.std.proofs.Common.{◌≡◌, ◌≤◌, ◌<◌, ◌∷◌, ◌++◌, ◌==◌, ◌⊎◌}
+use Rattle.actor_theory.proofs.Common.{ℕ, zero, suc, List, [], Bool, true, false, cond, refl, sym, ◌∙◌, ap, append-nil, arith, inl, inr, map, eqb-true, cases_lt, Entry, Language, naive, sends, by, World, IsFaithfulRun, left_of, lifted}
 use Rattle.actor_theory.specs.Order.{ordered}
 use Rattle.actor_theory.proofs.Lists.{by-append, by-cons, by-one_other}
 use Rattle.actor_theory.proofs.Given.{both-nil}

@@ -1,5 +1,6 @@
 -- The entries of a sender, and the oldest one.
-use Rattle.actor_theory.proofs.Common.{◌≡◌, ℕ, List, [], ◌∷◌, ◌++◌, Bool, true, false, ◌==◌, cond, Option, Some, None, refl, sym, ◌∙◌, ap, map, filter, eqb-true, eqb-false, eq-eqb, ne_eqb, filter-append, Entry, Sent, stamped, is_for, mail, by, first_from, with_front}
+use Rattle.std.proofs.Common.{◌≡◌, ◌∷◌, ◌++◌, ◌==◌}
+use Rattle.actor_theory.proofs.Common.{ℕ, List, [], Bool, true, false, cond, Option, Some, None, refl, sym, ◌∙◌, ap, map, filter, eqb-true, eqb-false, eq-eqb, ne_eqb, filter-append, Entry, Sent, stamped, is_for, mail, by, first_from, with_front}
 use Rattle.actor_theory.specs.Language.{is_of}
 
 pub by-append : {C : Type 0} (s : ℕ) (xs ys : List (Entry C)) → by s (xs ++ ys) ≡ by s xs ++ by s ys

@@ -1,5 +1,6 @@
 -- The machine's rounds and picks, and the record at their end.
-use Rattle.actor_theory.proofs.Common.{◌≡◌, ℕ, ◌+◌, ◌<◌, ◌≤◌, List, [], ◌∷◌, Bool, true, false, ◌||◌, Option, sym, ◌∙◌, ap, subst, ◌⊎◌, inr, map, length, drop, Entry, Language, World, step, picked, follow, turn_of, IsFinished, BeginsWithBoot, IsBoot, IsMeasure, Rounding, Slots, Reader, IsFaithful, IsScheduled, Cell, ReaderCell, world_of, Stand, Stepped, fresh_cells, fresh_reader, loaded_queues, kept_of, without_items, IsJoinedLog}
+use Rattle.std.proofs.Common.{◌≡◌, ◌+◌, ◌<◌, ◌≤◌, ◌∷◌, ◌||◌, ◌⊎◌}
+use Rattle.actor_theory.proofs.Common.{ℕ, List, [], Bool, true, false, Option, sym, ◌∙◌, ap, subst, inr, map, length, drop, Entry, Language, World, step, picked, follow, turn_of, IsFinished, BeginsWithBoot, IsBoot, IsMeasure, Rounding, Slots, Reader, IsFaithful, IsScheduled, Cell, ReaderCell, world_of, Stand, Stepped, fresh_cells, fresh_reader, loaded_queues, kept_of, without_items, IsJoinedLog}
 use Rattle.actor_theory.specs.Holds.{Holds}
 use Rattle.actor_theory.specs.Joined.{joined}
 use Rattle.actor_theory.proofs.Joining.{joined-quiet}

@@ -1,5 +1,6 @@
 -- The machine's steps are those of its world.
-use Rattle.actor_theory.proofs.Common.{◌≡◌, ℕ, suc, ◌≤◌, ◌<◌, List, [], ◌∷◌, ◌++◌, Bool, true, false, ◌==◌, cond, Some, None, refl, sym, ◌∙◌, ap, subst, append_assoc, arith, ◌⊎◌, inl, inr, map, length, slice_get, slice_set, IfSome, is_some, AllByRecursion, eqb-true, eqb-false, ne_eqb, cases_eq, map-append, Entry, Language, Sent, Moment, naive, number_after, reply, mail, World, first_from, finds, found, handled, Slots, Reader, lifted, to_actors, step_entry, Cell, ReaderCell, cell_log, queue_in, queue_at, own_items, world_of, IsCellOf, Stand, cell_after, delivered, Stepped}
+use Rattle.std.proofs.Common.{◌≡◌, ◌≤◌, ◌<◌, ◌∷◌, ◌++◌, ◌==◌, ◌⊎◌}
+use Rattle.actor_theory.proofs.Common.{ℕ, suc, List, [], Bool, true, false, cond, Some, None, refl, sym, ◌∙◌, ap, subst, append_assoc, arith, inl, inr, map, length, slice_get, slice_set, IfSome, is_some, AllByRecursion, eqb-true, eqb-false, ne_eqb, cases_eq, map-append, Entry, Language, Sent, Moment, naive, number_after, reply, mail, World, first_from, finds, found, handled, Slots, Reader, lifted, to_actors, step_entry, Cell, ReaderCell, cell_log, queue_in, queue_at, own_items, world_of, IsCellOf, Stand, cell_after, delivered, Stepped}
 use Rattle.actor_theory.specs.Joined.{joined}
 use Rattle.actor_theory.specs.Kept.{entry_of}
 use Rattle.actor_theory.proofs.Queues.{lifted_found, all-append, all-mail, get-set_same, get-set_other, length-set, length-arrived, delivered-at, delivered-lifted}

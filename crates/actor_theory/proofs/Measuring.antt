@@ -1,5 +1,6 @@
 -- The measure of contexts and a reader.
-use Rattle.actor_theory.proofs.Common.{◌≡◌, ℕ, ◌+◌, ◌≤◌, ◌<◌, List, [], ◌∷◌, ◌++◌, Bool, true, false, nat_le, cond, Option, Some, None, refl, sym, ◌∙◌, ap, subst, arith, ◌⊎◌, inl, inr, map, filter, slice_get, cases_eq, ne_eqb, Entry, ReaderStep, Item, Sent, Moment, naive, number_after, number_along, own, total, entry_cost, IsMeasure, Slots, Reader, lifted, lifted_sent, slots_only, slot_after, reader_after, step_entry, Cell, ReaderCell, cell_log, world_of, IsJoinedLog}
+use Rattle.std.proofs.Common.{◌≡◌, ◌+◌, ◌≤◌, ◌<◌, ◌∷◌, ◌++◌, ◌⊎◌}
+use Rattle.actor_theory.proofs.Common.{ℕ, List, [], Bool, true, false, nat_le, cond, Option, Some, None, refl, sym, ◌∙◌, ap, subst, arith, inl, inr, map, filter, slice_get, cases_eq, ne_eqb, Entry, ReaderStep, Item, Sent, Moment, naive, number_after, number_along, own, total, entry_cost, IsMeasure, Slots, Reader, lifted, lifted_sent, slots_only, slot_after, reader_after, step_entry, Cell, ReaderCell, cell_log, world_of, IsJoinedLog}
 use Rattle.actor_theory.specs.declared.entry.ReaderStep.TheVariants.{Entry as Taken}
 use Rattle.actor_theory.specs.Potential.{Pays}
 use Rattle.actor_theory.specs.Joined.{joined}

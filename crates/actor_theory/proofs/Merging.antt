@@ -1,5 +1,6 @@
 -- The order of all handlings is one.
-use Rattle.actor_theory.proofs.Common.{◌≡◌, ℕ, zero, suc, ◌≤◌, ◌<◌, List, [], ◌∷◌, Bool, true, false, ◌&&◌, ◌||◌, ◌==◌, nat_lt, nat_le, cond, refl, sym, ◌∙◌, ap, subst, arith, ◌⊎◌, inl, inr, eqb-true, eqb-false, eq-eqb, ne_eqb, ltb-true, leb-true, lt-ltb, cases_eq, cases_lt, AllByRecursion, Entry, Language, Moment, first, next, number_after, World, Handling, handlings_from, handlings, IsBefore, IsAscending, at, IsOrder, is_before, insert, insert_all, order_of}
+use Rattle.std.proofs.Common.{◌≡◌, ◌≤◌, ◌<◌, ◌∷◌, ◌&&◌, ◌||◌, ◌==◌, ◌⊎◌}
+use Rattle.actor_theory.proofs.Common.{ℕ, zero, suc, List, [], Bool, true, false, nat_lt, nat_le, cond, refl, sym, ◌∙◌, ap, subst, arith, inl, inr, eqb-true, eqb-false, eq-eqb, ne_eqb, ltb-true, leb-true, lt-ltb, cases_eq, cases_lt, AllByRecursion, Entry, Language, Moment, first, next, number_after, World, Handling, handlings_from, handlings, IsBefore, IsAscending, at, IsOrder, is_before, insert, insert_all, order_of}
 use Rattle.std.proofs.lemmas.Bool.{ltb-false, leb-false}
 use Rattle.actor_theory.specs.Order.{order_below}
 

@@ -1,5 +1,6 @@
 -- The order of the numbers is a run of the machine.
-use Rattle.actor_theory.proofs.Common.{◌≡◌, ℕ, zero, suc, ◌+◌, ◌≤◌, ◌<◌, max, List, [], ◌∷◌, ◌++◌, Bool, true, false, not, ◌==◌, nat_le, cond, Some, refl, sym, ◌∙◌, ap, subst, append_assoc, append-nil, arith, ◌⊎◌, inl, inr, map, filter, eqb-true, eqb-false, eq-eqb, le-leb, and_from, not_from_false, cases_lt, filter-append, AllByRecursion, Entry, Sent, Language, Moment, first, next, after_all, naive, number_after, mail, reply, replies, sends, by, is_for, stamped, World, start, first_from, with_front, finds, step, steps, is_open, found, handled, IsFaithfulRun, IsUnspentAlong, Handling, handlings_from, handlings, IsBefore, IsAscending, at, IsOrder, pick_of, FindsEach, left_of}
+use Rattle.std.proofs.Common.{◌≡◌, ◌+◌, ◌≤◌, ◌<◌, ◌∷◌, ◌++◌, ◌==◌, ◌⊎◌}
+use Rattle.actor_theory.proofs.Common.{ℕ, zero, suc, max, List, [], Bool, true, false, not, nat_le, cond, Some, refl, sym, ◌∙◌, ap, subst, append_assoc, append-nil, arith, inl, inr, map, filter, eqb-true, eqb-false, eq-eqb, le-leb, and_from, not_from_false, cases_lt, filter-append, AllByRecursion, Entry, Sent, Language, Moment, first, next, after_all, naive, number_after, mail, reply, replies, sends, by, is_for, stamped, World, start, first_from, with_front, finds, step, steps, is_open, found, handled, IsFaithfulRun, IsUnspentAlong, Handling, handlings_from, handlings, IsBefore, IsAscending, at, IsOrder, pick_of, FindsEach, left_of}
 use Rattle.actor_theory.specs.Order.{is_at, ordered, IsReplayed}
 use Rattle.actor_theory.proofs.Lists.{by-append, by-cons, by-one_same}
 use Rattle.actor_theory.proofs.Sending.{sends-append}

@@ -1,6 +1,6 @@
 -- The place of the oldest entry of a sender.
-use Rattle.actor_theory.proofs.Common.{◌≡◌, ℕ, suc, ◌+◌, ◌<◌, ◌≤◌, List, [], ◌∷◌, ◌++◌, length, drop, Option, Some, None, refl, sym, ◌∙◌, ap, append_assoc, arith, eq-eqb, ne_eqb, Entry, first_from, with_front}
-use Rattle.std.proofs.Common.{take, get_or}
+use Rattle.actor_theory.proofs.Common.{ℕ, suc, List, [], length, drop, Option, Some, None, refl, sym, ◌∙◌, ap, append_assoc, arith, eq-eqb, ne_eqb, Entry, first_from, with_front}
+use Rattle.std.proofs.Common.{◌≡◌, ◌+◌, ◌<◌, ◌≤◌, ◌∷◌, ◌++◌, take, get_or}
 use Rattle.std.specs.List.{remove}
 use Rattle.std.proofs.lemmas.List.{drop_more, take_more, drop_all}
 use Rattle.actor_theory.proofs.Queues.{behind}

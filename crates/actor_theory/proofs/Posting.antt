@@ -1,5 +1,6 @@
 -- An actor posts all of its outboxes.
-use Rattle.actor_theory.proofs.Common.{◌≡◌, ℕ, List, [], ◌++◌, Bool, true, false, ◌==◌, cond, refl, sym, ◌∙◌, ap, append_assoc, append-nil, ◌⊎◌, inr, map, eqb-true, eqb-false, Entry, Language, by, World, Slots, Reader, lifted, Cell, ReaderCell, queue_at, own_items, world_of}
+use Rattle.std.proofs.Common.{◌≡◌, ◌++◌, ◌==◌, ◌⊎◌}
+use Rattle.actor_theory.proofs.Common.{ℕ, List, [], Bool, true, false, cond, refl, sym, ◌∙◌, ap, append_assoc, append-nil, inr, map, eqb-true, eqb-false, Entry, Language, by, World, Slots, Reader, lifted, Cell, ReaderCell, queue_at, own_items, world_of}
 use Rattle.actor_theory.specs.Holds.{Holds}
 use Rattle.actor_theory.specs.Joined.{joined}
 use Rattle.actor_theory.proofs.Lists.{by-append}

@@ -1,5 +1,6 @@
 -- Queues of what others sent, and the reader's own items.
-use Rattle.actor_theory.proofs.Common.{subst, ◌≡◌, ℕ, zero, suc, ◌+◌, ◌≤◌, ◌<◌, List, [], ◌∷◌, ◌++◌, Bool, true, false, ◌==◌, nat_le, nat_lt, cond, Option, Some, None, refl, sym, ◌∙◌, ap, append-nil, arith, ◌⊎◌, inl, inr, map, filter, length, slice_get, slice_set, eq-eqb, ne_eqb, ltb-true, le-leb, cases_lt, slice_get_past, AllByRecursion, Entry, Sent, mail, stamped, is_for, own, first_from, with_front, other_sender, head_sender, lifted, lifted_sent, to_actors, to_slots, slots_only, queue_in, queue_at, arrived, delivered}
+use Rattle.std.proofs.Common.{◌≡◌, ◌+◌, ◌≤◌, ◌<◌, ◌∷◌, ◌++◌, ◌==◌, ◌⊎◌}
+use Rattle.actor_theory.proofs.Common.{subst, ℕ, zero, suc, List, [], Bool, true, false, nat_le, nat_lt, cond, Option, Some, None, refl, sym, ◌∙◌, ap, append-nil, arith, inl, inr, map, filter, length, slice_get, slice_set, eq-eqb, ne_eqb, ltb-true, le-leb, cases_lt, slice_get_past, AllByRecursion, Entry, Sent, mail, stamped, is_for, own, first_from, with_front, other_sender, head_sender, lifted, lifted_sent, to_actors, to_slots, slots_only, queue_in, queue_at, arrived, delivered}
 use Rattle.actor_theory.proofs.Joining.{mail-to_actors, mail-to_actors_none}
 use Rattle.actor_theory.proofs.Leaving.{lifted-append}
 

@@ -1,5 +1,6 @@
 -- The reader's steps of the machine, and steps that find nothing.
-use Rattle.actor_theory.proofs.Common.{◌≡◌, ℕ, zero, suc, ◌+◌, ◌<◌, max, List, [], ◌∷◌, ◌++◌, Bool, true, false, ◌==◌, nat_lt, cond, Option, Some, None, refl, sym, ◌∙◌, ap, subst, append-nil, arith, ◌⊎◌, inr, map, length, slice_get, slice_set, AllByRecursion, eq-eqb, ne_eqb, ltb-true, map-append, Entry, Item, Sent, Moment, naive, number_after, reply, mail, World, own, first_from, finds, Slots, Reader, lifted, to_slots, slots_only, step_entry, Cell, ReaderCell, queue_in, queue_at, own_items, world_of, Stand, reader_after_entry, reader_after_item, arrived, delivered, Stepped}
+use Rattle.std.proofs.Common.{◌≡◌, ◌+◌, ◌<◌, ◌∷◌, ◌++◌, ◌==◌, ◌⊎◌}
+use Rattle.actor_theory.proofs.Common.{ℕ, zero, suc, max, List, [], Bool, true, false, nat_lt, cond, Option, Some, None, refl, sym, ◌∙◌, ap, subst, append-nil, arith, inr, map, length, slice_get, slice_set, AllByRecursion, eq-eqb, ne_eqb, ltb-true, map-append, Entry, Item, Sent, Moment, naive, number_after, reply, mail, World, own, first_from, finds, Slots, Reader, lifted, to_slots, slots_only, step_entry, Cell, ReaderCell, queue_in, queue_at, own_items, world_of, Stand, reader_after_entry, reader_after_item, arrived, delivered, Stepped}
 use Rattle.actor_theory.specs.declared.entry.ReaderStep.TheVariants.{Entry as Taken}
 use Rattle.actor_theory.specs.Joined.{joined}
 use Rattle.actor_theory.proofs.Joining.{mail-filter_none}

@@ -1,5 +1,6 @@
 -- A run has one record.
-use Rattle.actor_theory.proofs.Common.{◌≡◌, ℕ, zero, suc, ◌≤◌, List, [], ◌∷◌, Bool, true, Option, Some, None, refl, sym, ◌∙◌, ap, subst, arith, ◌⊎◌, inl, inr, map, length, slice_get, IfSome, slice_get_past, Entry, Handled, ReaderStep, Item, numbers_along, World, IsFinished, BeginsWithBoot, IsCausal, Slots, Reader, lifted, slot_after, step_entry, step_number, SlotKept, Kept, number_of, log_of, slot_log, slot_left, world_of_kept, IsNaive, IsFaithful, IsKept, IsScheduled}
+use Rattle.std.proofs.Common.{◌≡◌, ◌≤◌, ◌∷◌, ◌⊎◌}
+use Rattle.actor_theory.proofs.Common.{ℕ, zero, suc, List, [], Bool, true, Option, Some, None, refl, sym, ◌∙◌, ap, subst, arith, inl, inr, map, length, slice_get, IfSome, slice_get_past, Entry, Handled, ReaderStep, Item, numbers_along, World, IsFinished, BeginsWithBoot, IsCausal, Slots, Reader, lifted, slot_after, step_entry, step_number, SlotKept, Kept, number_of, log_of, slot_log, slot_left, world_of_kept, IsNaive, IsFaithful, IsKept, IsScheduled}
 use Rattle.actor_theory.specs.declared.entry.ReaderStep.TheVariants.{Entry as Taken}
 use Rattle.actor_theory.specs.Holds.{Holds}
 use Rattle.actor_theory.specs.Joined.{joined}

@@ -1,5 +1,6 @@
 -- The order of a faithful record is a run, and gives the record again.
-use Rattle.actor_theory.proofs.Common.{◌≡◌, ℕ, zero, suc, List, [], ◌∷◌, Option, Some, None, refl, sym, ◌∙◌, ap, subst, ◌⊎◌, inl, inr, map, slice_get, IfSome, ne_eqb, eq-eqb, cases_eq, Entry, Handled, ReaderStep, Language, Moment, next, first, number_after, numbers_along, World, start, step, steps, follow, Handling, handlings_from, handlings, merged, insert_all, pick_of, FindsEach, order_of, left_of, Slots, Reader, lifted, step_entry, step_number, SlotKept, Kept, number_of, slot_log, slot_left, world_of_kept, IsNaive, IsSlotEnded, IsFaithful, IsKept}
+use Rattle.std.proofs.Common.{◌≡◌, ◌∷◌, ◌⊎◌}
+use Rattle.actor_theory.proofs.Common.{ℕ, zero, suc, List, [], Option, Some, None, refl, sym, ◌∙◌, ap, subst, inl, inr, map, slice_get, IfSome, ne_eqb, eq-eqb, cases_eq, Entry, Handled, ReaderStep, Language, Moment, next, first, number_after, numbers_along, World, start, step, steps, follow, Handling, handlings_from, handlings, merged, insert_all, pick_of, FindsEach, order_of, left_of, Slots, Reader, lifted, step_entry, step_number, SlotKept, Kept, number_of, slot_log, slot_left, world_of_kept, IsNaive, IsSlotEnded, IsFaithful, IsKept}
 use Rattle.actor_theory.specs.Order.{ordered}
 use Rattle.actor_theory.specs.Joined.{joined}
 use Rattle.actor_theory.specs.Kept.{entry_of}

@@ -1,5 +1,6 @@
 -- The loops of a program that runs rounds.
-use Rattle.actor_theory.proofs.Common.{◌≡◌, ℕ, zero, suc, ◌+◌, ◌-◌, ◌≤◌, ◌<◌, List, Bool, true, false, ◌||◌, cond, Option, Some, None, refl, sym, ◌∙◌, ap, arith, ◌∷◌, [], ◌++◌, subst, ◌==◌, ◌⊎◌, inl, inr, is_some, eq-eqb, cases_lt, Entry, Language, World, found, finds, step, turn_of, round, rounds, IsQuiet, IsFinished, IsMeasure, potential, Rounding}
+use Rattle.std.proofs.Common.{◌≡◌, ◌+◌, ◌-◌, ◌≤◌, ◌<◌, ◌||◌, ◌∷◌, ◌++◌, ◌==◌, ◌⊎◌}
+use Rattle.actor_theory.proofs.Common.{ℕ, zero, suc, List, Bool, true, false, cond, Option, Some, None, refl, sym, ◌∙◌, ap, arith, [], subst, inl, inr, is_some, eq-eqb, cases_lt, Entry, Language, World, found, finds, step, turn_of, round, rounds, IsQuiet, IsFinished, IsMeasure, potential, Rounding}
 use Rattle.std.proofs.lemmas.Bool.{lt-leb}
 use Rattle.actor_theory.specs.World.{turns}
 use Rattle.actor_theory.specs.Rounding.{Rounded, RoundsSoFar}

@@ -1,5 +1,6 @@
 -- What every run of steps keeps.
-use Rattle.actor_theory.proofs.Common.{◌≡◌, ℕ, zero, suc, ◌+◌, ◌≤◌, ◌<◌, List, [], ◌∷◌, ◌++◌, Bool, true, false, not, ◌==◌, nat_le, cond, Option, Some, None, refl, sym, ◌∙◌, ap, append_assoc, append-nil, arith, eqb-true, leb-true, ne_eqb, and_parts, Entry, Language, Moment, first, next, after_all, naive, World, start, handled, found, finds, step, steps, is_open, turn_of, round, rounds, IsUnspentAlong, IsPrefix}
+use Rattle.std.proofs.Common.{◌≡◌, ◌+◌, ◌≤◌, ◌<◌, ◌∷◌, ◌++◌, ◌==◌}
+use Rattle.actor_theory.proofs.Common.{ℕ, zero, suc, List, [], Bool, true, false, not, nat_le, cond, Option, Some, None, refl, sym, ◌∙◌, ap, append_assoc, append-nil, arith, eqb-true, leb-true, ne_eqb, and_parts, Entry, Language, Moment, first, next, after_all, naive, World, start, handled, found, finds, step, steps, is_open, turn_of, round, rounds, IsUnspentAlong, IsPrefix}
 use Rattle.std.proofs.lemmas.Bool.{not-true}
 use Rattle.actor_theory.specs.World.{turns}
 use Rattle.actor_theory.proofs.Stepping.{IsEach, step-each, start-each, finds-some}

@@ -1,5 +1,6 @@
 -- What a schedule makes is faithful.
-use Rattle.actor_theory.proofs.Common.{◌≡◌, ℕ, ◌+◌, ◌≤◌, ◌<◌, List, [], ◌∷◌, ◌++◌, Bool, true, false, not, ◌==◌, nat_le, cond, Option, Some, None, refl, sym, ◌∙◌, ap, subst, arith, ◌⊎◌, inl, inr, eqb-true, eqb-false, eq-eqb, le-leb, ne_eqb, and_from, not_from_false, le-leb, cases_lt, AllByRecursion, Entry, Language, naive, sends, by, World, start, first_from, with_front, step, picked, follow, is_open, other_sender, head_sender, IsQuiet, IsFinished, IsBoot, BeginsWithBoot, IsReaderQuiet, IsFaithfulRun, IsScheduledRun}
+use Rattle.std.proofs.Common.{◌≡◌, ◌+◌, ◌≤◌, ◌<◌, ◌∷◌, ◌++◌, ◌==◌, ◌⊎◌}
+use Rattle.actor_theory.proofs.Common.{ℕ, List, [], Bool, true, false, not, nat_le, cond, Option, Some, None, refl, sym, ◌∙◌, ap, subst, arith, inl, inr, eqb-true, eqb-false, eq-eqb, le-leb, ne_eqb, and_from, not_from_false, le-leb, cases_lt, AllByRecursion, Entry, Language, naive, sends, by, World, start, first_from, with_front, step, picked, follow, is_open, other_sender, head_sender, IsQuiet, IsFinished, IsBoot, BeginsWithBoot, IsReaderQuiet, IsFaithfulRun, IsScheduledRun}
 use Rattle.actor_theory.specs.World.{given}
 use Rattle.actor_theory.specs.Faithful.{IsDelivered}
 use Rattle.actor_theory.proofs.Given.{given-run}

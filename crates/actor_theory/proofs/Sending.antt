@@ -1,5 +1,6 @@
 -- What is sent along a log.
-use Rattle.actor_theory.proofs.Common.{◌≡◌, ℕ, List, [], ◌∷◌, ◌++◌, refl, sym, ◌∙◌, ap, append_assoc, append-nil, Entry, Language, Moment, next, first, after_all, naive, mail, reply, replies, sends}
+use Rattle.std.proofs.Common.{◌≡◌, ◌∷◌, ◌++◌}
+use Rattle.actor_theory.proofs.Common.{ℕ, List, [], refl, sym, ◌∙◌, ap, append_assoc, append-nil, Entry, Language, Moment, next, first, after_all, naive, mail, reply, replies, sends}
 use Rattle.actor_theory.specs.Language.{before}
 
 pub after_all-append : {S C : Type 0} (L : Language S C) (m : Moment S) (xs ys : List (Entry C)) → after_all L m (xs ++ ys) ≡ after_all L (after_all L m xs) ys

@@ -1,5 +1,6 @@
 -- A stable sort of all handlings by number and actor is their order.
-use Rattle.actor_theory.proofs.Common.{◌≡◌, ℕ, zero, suc, List, [], ◌∷◌, ◌++◌, Bool, true, false, not, cond, refl, sym, ◌∙◌, ap, subst, map, filter, AllByRecursion, and_parts, map-append, filter-append, Handling, is_before, insert, insert_all, merged}
+use Rattle.std.proofs.Common.{◌≡◌, ◌∷◌, ◌++◌}
+use Rattle.actor_theory.proofs.Common.{ℕ, zero, suc, List, [], Bool, true, false, not, cond, refl, sym, ◌∙◌, ap, subst, map, filter, AllByRecursion, and_parts, map-append, filter-append, Handling, is_before, insert, insert_all, merged}
 use Rattle.std.specs.List.Sorted.{ties}
 use Rattle.std.specs.Cmp.{IsStrictWeakOrder}
 use Rattle.actor_theory.specs.Order.{IsAscendingBy, laid}

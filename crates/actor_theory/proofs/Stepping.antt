@@ -1,5 +1,6 @@
 -- What a step keeps.
-use Rattle.actor_theory.proofs.Common.{◌≡◌, ℕ, List, [], ◌∷◌, ◌++◌, Bool, true, false, ◌==◌, cond, Option, Some, None, refl, sym, ◌∙◌, ap, append_assoc, append-nil, eqb-true, eqb-false, Entry, Language, naive, number_after, mail, reply, sends, by, loaded, World, start, first_from, handled, found, finds, step, steps, is_open}
+use Rattle.std.proofs.Common.{◌≡◌, ◌∷◌, ◌++◌, ◌==◌}
+use Rattle.actor_theory.proofs.Common.{ℕ, List, [], Bool, true, false, cond, Option, Some, None, refl, sym, ◌∙◌, ap, append_assoc, append-nil, eqb-true, eqb-false, Entry, Language, naive, number_after, mail, reply, sends, by, loaded, World, start, first_from, handled, found, finds, step, steps, is_open}
 use Rattle.actor_theory.proofs.Lists.{by-append, by-mail_same, by-mail_other, IsFirstFrom, first_from-some}
 use Rattle.actor_theory.proofs.Sending.{sends-one}
 

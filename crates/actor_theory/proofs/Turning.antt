@@ -1,5 +1,6 @@
 -- The machine's turns: an actor handles its oldest entry, and the reader without one its next item.
-use Rattle.actor_theory.proofs.Common.{◌≡◌, ℕ, ◌+◌, List, [], ◌∷◌, ◌++◌, Bool, true, false, cond, Some, refl, sym, ◌∙◌, ap, subst, arith, ◌⊎◌, inr, map, slice_get, slice_set, eq-eqb, ne_eqb, AllByRecursion, Entry, number_after, own, first_from, head_sender, other_sender, turn_of, Slots, Reader, lifted, slots_only, Cell, ReaderCell, queue_at, world_of, Stand, cell_after, reader_after_entry, reader_after_item, delivered, Stepped}
+use Rattle.std.proofs.Common.{◌≡◌, ◌+◌, ◌∷◌, ◌++◌, ◌⊎◌}
+use Rattle.actor_theory.proofs.Common.{ℕ, List, [], Bool, true, false, cond, Some, refl, sym, ◌∙◌, ap, subst, arith, inr, map, slice_get, slice_set, eq-eqb, ne_eqb, AllByRecursion, Entry, number_after, own, first_from, head_sender, other_sender, turn_of, Slots, Reader, lifted, slots_only, Cell, ReaderCell, queue_at, world_of, Stand, cell_after, reader_after_entry, reader_after_item, delivered, Stepped}
 use Rattle.actor_theory.specs.Joined.{joined}
 use Rattle.actor_theory.proofs.Queues.{first_from-head, head_sender-lifted, other_sender-own, other_sender-lifted}
 use Rattle.actor_theory.proofs.Cells.{is-slot}

@@ -1,5 +1,6 @@
 -- A schedule makes one world.
-use Rattle.actor_theory.proofs.Common.{◌≡◌, [], Option, ℕ, zero, suc, ◌+◌, ◌-◌, ◌≤◌, ◌<◌, List, Bool, true, false, refl, sym, ◌∙◌, ap, subst, arith, ◌⊎◌, inl, inr, cases_lt, Language, World, start, found, follow, round, rounds, IsQuiet, IsFinished, IsScheduledRun}
+use Rattle.std.proofs.Common.{◌≡◌, ◌+◌, ◌-◌, ◌≤◌, ◌<◌, ◌⊎◌}
+use Rattle.actor_theory.proofs.Common.{[], Option, ℕ, zero, suc, List, Bool, true, false, refl, sym, ◌∙◌, ap, subst, arith, inl, inr, cases_lt, Language, World, start, found, follow, round, rounds, IsQuiet, IsFinished, IsScheduledRun}
 use Rattle.actor_theory.specs.World.{given, turns}
 
 turns-quiet : {S C : Type 0} (L : Language S C) (takes : Bool) (d n : ℕ) (w : World C) → IsQuiet L takes w → turns L takes d n w ≡ w

@@ -1,5 +1,6 @@
 -- Rounds in which the reader takes no item are the same with its items and without them.
-use Rattle.actor_theory.proofs.Common.{◌≡◌, ℕ, zero, suc, ◌+◌, List, [], ◌∷◌, ◌++◌, Bool, true, false, ◌==◌, cond, Option, Some, None, refl, sym, ◌∙◌, ap, subst, append_assoc, arith, ◌⊎◌, inr, map, eqb-true, eqb-false, Entry, Language, naive, reply, World, own, first_from, is_open, handled, found, finds, step, other_sender, turn_of, round, rounds, IsQuiet, IsFinished, IsBoot, Slots, Reader, Cell, ReaderCell, world_of, fresh_cells, fresh_reader, loaded_queues, without_items}
+use Rattle.std.proofs.Common.{◌≡◌, ◌+◌, ◌∷◌, ◌++◌, ◌==◌, ◌⊎◌}
+use Rattle.actor_theory.proofs.Common.{ℕ, zero, suc, List, [], Bool, true, false, cond, Option, Some, None, refl, sym, ◌∙◌, ap, subst, append_assoc, arith, inr, map, eqb-true, eqb-false, Entry, Language, naive, reply, World, own, first_from, is_open, handled, found, finds, step, other_sender, turn_of, round, rounds, IsQuiet, IsFinished, IsBoot, Slots, Reader, Cell, ReaderCell, world_of, fresh_cells, fresh_reader, loaded_queues, without_items}
 use Rattle.actor_theory.specs.World.{given, turns}
 use Rattle.actor_theory.specs.Joined.{joined}
 use Rattle.actor_theory.proofs.Beside.{cancel}

@@ -1,5 +1,6 @@
 -- What the work of all parts keeps, whatever its interleaving.
-use Rattle.actor_theory.proofs.Common.{ℕ, List, [], ◌∷◌, ◌++◌, sym, ◌∙◌, ap, append_assoc, append-nil, Entry, Language, Moment, first, next, after_all, naive, replies, sends, by, World, IsUnspentAlong, BeginsWithBoot}
+use Rattle.std.proofs.Common.{◌∷◌, ◌++◌}
+use Rattle.actor_theory.proofs.Common.{ℕ, List, [], sym, ◌∙◌, ap, append_assoc, append-nil, Entry, Language, Moment, first, next, after_all, naive, replies, sends, by, World, IsUnspentAlong, BeginsWithBoot}
 use Rattle.actor_theory.specs.Holds.{Holds, Works}
 use Rattle.actor_theory.proofs.Lists.{by-append}
 use Rattle.actor_theory.proofs.Sending.{sends-append}

@@ -1,5 +1,6 @@
 -- Causes: numbers rise along a log, and an entry was sent by a handling with its stamp as number.
-use Rattle.actor_theory.specs.Common.{◌≡◌, ℕ, ◌<◌, ◌⊎◌, List, [], ◌∷◌, AllByRecursion}
+use Rattle.std.specs.Prelude.{◌≡◌, ◌<◌, ◌⊎◌, ◌∷◌}
+use Rattle.actor_theory.specs.Common.{ℕ, List, [], AllByRecursion}
 use Rattle.actor_theory.specs.declared.entry.Entry.{Entry}
 use Rattle.actor_theory.specs.Language.{Language}
 use Rattle.actor_theory.specs.World.{World}

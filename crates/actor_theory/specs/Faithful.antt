@@ -1,5 +1,6 @@
 -- Faithful logs, and those of a schedule.
-use Rattle.actor_theory.specs.Common.{◌≡◌, ℕ, ◌≤◌, ◌<◌, List, [], ◌∷◌, ◌++◌, true, false, Option, AllByRecursion}
+use Rattle.std.specs.Prelude.{◌≡◌, ◌≤◌, ◌<◌, ◌∷◌, ◌++◌}
+use Rattle.actor_theory.specs.Common.{ℕ, List, [], true, false, Option, AllByRecursion}
 use Rattle.actor_theory.specs.declared.entry.Entry.{Entry}
 use Rattle.actor_theory.specs.Language.{Language, Moment, first, next, naive, mail, replies, sends, by}
 use Rattle.actor_theory.specs.World.{World, start, given, follow, IsFinished}

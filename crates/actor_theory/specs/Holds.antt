@@ -1,5 +1,6 @@
 -- What holds between parts that run beside each other: logs, queues, and outboxes.
-use Rattle.actor_theory.specs.Common.{◌≡◌, ℕ, ◌≤◌, ◌<◌, List, [], ◌∷◌, ◌++◌, false}
+use Rattle.std.specs.Prelude.{◌≡◌, ◌≤◌, ◌<◌, ◌∷◌, ◌++◌}
+use Rattle.actor_theory.specs.Common.{ℕ, List, [], false}
 use Rattle.actor_theory.specs.declared.entry.Entry.{Entry}
 use Rattle.actor_theory.specs.Language.{Language, first, naive, reply, replies, sends, by}
 use Rattle.actor_theory.specs.World.{World}

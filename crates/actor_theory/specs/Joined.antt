@@ -1,5 +1,6 @@
 -- Contexts and a reader, as one language. The reader's number is that of contexts, and its items are entries that it sends itself.
-use Rattle.actor_theory.specs.Common.{◌≡◌, ℕ, ◌⊎◌, List, [], ◌∷◌, Bool, false, ◌==◌, nat_le, nat_lt, if◌then◌else◌, map, filter}
+use Rattle.std.specs.Prelude.{◌≡◌, ◌⊎◌, ◌∷◌, ◌==◌, if◌then◌else◌}
+use Rattle.actor_theory.specs.Common.{ℕ, List, [], Bool, false, nat_le, nat_lt, map, filter}
 use Rattle.std.proofs.Common.{inl, inr}
 use Rattle.actor_theory.specs.declared.entry.Entry.{Entry}
 use Rattle.actor_theory.specs.declared.entry.ReaderStep.{ReaderStep}

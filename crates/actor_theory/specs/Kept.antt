@@ -1,5 +1,6 @@
 -- What is kept of a run: for each slot what it shows and its handlings, and the reader's steps.
-use Rattle.actor_theory.specs.Common.{◌≡◌, ℕ, suc, List, [], Bool, false, ◌==◌, if◌then◌else◌, Option, Some, None, map, length, slice_get, IfSome, ◌⊎◌}
+use Rattle.std.specs.Prelude.{◌≡◌, ◌==◌, if◌then◌else◌, ◌⊎◌}
+use Rattle.actor_theory.specs.Common.{ℕ, suc, List, [], Bool, false, Option, Some, None, map, length, slice_get, IfSome}
 use Rattle.std.proofs.Common.{inr}
 use Rattle.actor_theory.specs.declared.entry.Entry.{Entry}
 use Rattle.actor_theory.specs.declared.entry.Handled.{Handled}

@@ -1,6 +1,6 @@
 -- A machine of one thread: a cell per slot, a reader with the rest of its items, and a queue per actor of what others sent.
-use Rattle.actor_theory.specs.Common.{◌<◌, ◌≡◌, ℕ, zero, suc, ◌+◌, List, [], ◌∷◌, ◌++◌, Bool, ◌==◌, if◌then◌else◌, Option, Some, None, map, length, slice_get, IfSome, ◌⊎◌, AllByRecursion}
-use Rattle.std.specs.Prelude.{slice_index_or, remove}
+use Rattle.actor_theory.specs.Common.{ℕ, zero, suc, List, [], Bool, Option, Some, None, map, length, slice_get, IfSome, AllByRecursion}
+use Rattle.std.specs.Prelude.{◌<◌, ◌≡◌, ◌+◌, ◌∷◌, ◌++◌, ◌==◌, if◌then◌else◌, ◌⊎◌, slice_index_or, remove}
 use Rattle.std.specs.Option.{is_some}
 use Rattle.std.proofs.Common.{inr}
 use Rattle.actor_theory.specs.declared.entry.Entry.{Entry}

@@ -1,5 +1,6 @@
 -- A measure of contexts and a reader, by those of each alone.
-use Rattle.actor_theory.specs.Common.{◌≡◌, ℕ, ◌+◌, ◌<◌, List, map, false, ◌⊎◌}
+use Rattle.std.specs.Prelude.{◌≡◌, ◌+◌, ◌<◌, ◌⊎◌}
+use Rattle.actor_theory.specs.Common.{ℕ, List, map, false}
 use Rattle.std.proofs.Common.{inl, inr}
 use Rattle.actor_theory.specs.declared.entry.Entry.{Entry}
 use Rattle.actor_theory.specs.declared.entry.ReaderStep.{ReaderStep}

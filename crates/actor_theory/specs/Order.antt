@@ -1,6 +1,6 @@
 -- The order of the numbers, as a run of the machine of one thread.
-use Rattle.actor_theory.specs.Common.{◌≡◌, ℕ, zero, suc, ◌≤◌, ◌<◌, ◌⊎◌, List, [], ◌∷◌, ◌++◌, Bool, false, ◌&&◌, ◌==◌, nat_lt, nat_le, if◌then◌else◌, map, filter, AllByRecursion}
-use Rattle.std.specs.Prelude.{◌||◌, IsSome}
+use Rattle.actor_theory.specs.Common.{ℕ, zero, suc, List, [], Bool, false, nat_lt, nat_le, map, filter, AllByRecursion}
+use Rattle.std.specs.Prelude.{◌≡◌, ◌≤◌, ◌<◌, ◌⊎◌, ◌∷◌, ◌++◌, ◌&&◌, ◌==◌, if◌then◌else◌, ◌||◌, IsSome}
 use Rattle.actor_theory.specs.declared.entry.Entry.{Entry}
 use Rattle.actor_theory.specs.Language.{Language, Moment, first, next, number_after, by}
 use Rattle.actor_theory.specs.World.{World, start, finds, step, steps}

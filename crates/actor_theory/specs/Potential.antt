@@ -1,5 +1,6 @@
 -- A measure that each step lowers.
-use Rattle.actor_theory.specs.Common.{◌≡◌, ℕ, zero, suc, ◌+◌, ◌≤◌, ◌<◌, List, [], ◌∷◌, ◌++◌, false}
+use Rattle.std.specs.Prelude.{◌≡◌, ◌+◌, ◌≤◌, ◌<◌, ◌∷◌, ◌++◌}
+use Rattle.actor_theory.specs.Common.{ℕ, zero, suc, List, [], false}
 use Rattle.actor_theory.specs.declared.entry.Entry.{Entry}
 use Rattle.actor_theory.specs.Language.{Sent}
 use Rattle.actor_theory.specs.Language.{Language, Moment, next, naive, number_after, stamped}

@@ -1,5 +1,6 @@
 -- The order of a record's handlings, and the run along it.
-use Rattle.actor_theory.specs.Common.{ℕ, suc, List, [], ◌==◌, if◌then◌else◌, Option, Some, None, map, slice_get, ◌⊎◌}
+use Rattle.std.specs.Prelude.{◌==◌, if◌then◌else◌, ◌⊎◌}
+use Rattle.actor_theory.specs.Common.{ℕ, suc, List, [], Option, Some, None, map, slice_get}
 use Rattle.std.proofs.Common.{inr}
 use Rattle.actor_theory.specs.declared.entry.Handled.{Handled}
 use Rattle.actor_theory.specs.declared.entry.ReaderStep.{ReaderStep}

@@ -1,5 +1,6 @@
 -- What a run of a body does: an action or a callback, with the actions that it calls.
-use Rattle.body_meaning.specs.Common.{ℕ, zero, suc, ◌-◌, ◌==◌, nat_lt, Bool, true, false, if◌then◌else◌, List, [], ◌∷◌, ◌++◌, length, map, Option, Some, None, slice_get, Result, Ok, Err, Shape, Value, TypedExpr, Site, Stmt, default_of, Fault, Effect, Scene}
+use Rattle.std.specs.Prelude.{◌-◌, ◌==◌, if◌then◌else◌, ◌∷◌, ◌++◌}
+use Rattle.body_meaning.specs.Common.{ℕ, zero, suc, nat_lt, Bool, true, false, List, [], length, map, Option, Some, None, slice_get, Result, Ok, Err, Shape, Value, TypedExpr, Site, Stmt, default_of, Fault, Effect, Scene}
 use Rattle.epl_values.specs.declared.value.Value.TheVariants as value
 use Rattle.typed_program.specs.declared.program.Program.{Program}
 use Rattle.typed_program.specs.declared.program.Monitor.{Monitor}

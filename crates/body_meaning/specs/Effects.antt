@@ -1,6 +1,6 @@
 -- The effects of bodies, each behind its charge.
-use Rattle.body_meaning.specs.Common.{ℕ, ◌+◌, Bool, true, false, if◌then◌else◌, List, [], ◌∷◌, ◌++◌, map, Option, Some, None, Result, Err, Value, Value-F, out-Value, Pair, roll-Pair, cost_of, Effect, Scene}
-use Rattle.std.specs.Prelude.{◌*◌, sum, max}
+use Rattle.body_meaning.specs.Common.{ℕ, Bool, true, false, List, [], map, Option, Some, None, Result, Err, Value, Value-F, out-Value, Pair, roll-Pair, cost_of, Effect, Scene}
+use Rattle.std.specs.Prelude.{◌+◌, if◌then◌else◌, ◌∷◌, ◌++◌, ◌*◌, sum, max}
 use Rattle.std.specs.List.{sum_by}
 use Rattle.epl_values.specs.declared.value.Value.{fold-Value}
 use Rattle.epl_values.specs.declared.value.Value.TheOpen as layer

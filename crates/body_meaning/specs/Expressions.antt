@@ -1,5 +1,6 @@
 -- What expressions mean: their operands from left to right, and then themselves.
-use Rattle.body_meaning.specs.Common.{ℕ, ◌==◌, not, Bool, true, false, if◌then◌else◌, List, [], ◌∷◌, ◌++◌, map, Option, Some, None, Result, Ok, Err, Shape, EventShape, Value, Pair, Comparison, Operator, Method, TypedExpr, TypedSuffix, Variable, default_of}
+use Rattle.std.specs.Prelude.{◌==◌, if◌then◌else◌, ◌∷◌, ◌++◌}
+use Rattle.body_meaning.specs.Common.{ℕ, not, Bool, true, false, List, [], map, Option, Some, None, Result, Ok, Err, Shape, EventShape, Value, Pair, Comparison, Operator, Method, TypedExpr, TypedSuffix, Variable, default_of}
 use Rattle.epl_values.specs.declared.value.Value.TheVariants as value
 use Rattle.epl_tree.specs.declared.expression.Operator.TheVariants as operator
 use Rattle.typed_program.specs.declared.expression.Method.TheVariants as method

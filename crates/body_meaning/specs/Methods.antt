@@ -1,6 +1,6 @@
 -- What methods give, what they charge, and what those that change their object make of it.
-use Rattle.body_meaning.specs.Common.{ℕ, ◌+◌, ◌==◌, ℤ, pos, negsuc, Bool, true, false, List, [], ◌∷◌, ◌++◌, length, map, remove, nat_lt, if◌then◌else◌, Option, Some, None, Result, Ok, Err, EventShape, Value, Value-F, out-Value, roll-Value, Pair, out-Pair, order_of, Method, cost_of, Fault}
-use Rattle.std.specs.Prelude.{is_some}
+use Rattle.body_meaning.specs.Common.{ℕ, ℤ, pos, negsuc, Bool, true, false, List, [], length, map, remove, nat_lt, Option, Some, None, Result, Ok, Err, EventShape, Value, Value-F, out-Value, roll-Value, Pair, out-Pair, order_of, Method, cost_of, Fault}
+use Rattle.std.specs.Prelude.{◌+◌, ◌==◌, ◌∷◌, ◌++◌, if◌then◌else◌, is_some}
 use Rattle.std.specs.List.{position}
 use Rattle.epl_values.specs.declared.value.Value.TheOpen as layer
 use Rattle.epl_values.specs.declared.value.Value.TheVariants as value

@@ -1,6 +1,6 @@
 -- Parts of values: fields, elements and entries; and variables with a part that is changed.
-use Rattle.body_meaning.specs.Common.{ℕ, ◌+◌, ℤ, List, [], ◌∷◌, ◌++◌, map, Option, Some, None, slice_get, remove, Result, Ok, Err, if◌then◌else◌, Bool, true, false, Ordering, Less, Equal, Greater, Value, Value-F, out-Value, roll-Value, Pair, out-Pair, roll-Pair, order_of, Variable, Fault}
-use Rattle.std.specs.Prelude.{slice_set}
+use Rattle.body_meaning.specs.Common.{ℕ, ℤ, List, [], map, Option, Some, None, slice_get, remove, Result, Ok, Err, Bool, true, false, Ordering, Less, Equal, Greater, Value, Value-F, out-Value, roll-Value, Pair, out-Pair, roll-Pair, order_of, Variable, Fault}
+use Rattle.std.specs.Prelude.{◌+◌, ◌∷◌, ◌++◌, if◌then◌else◌, slice_set}
 use Rattle.std.specs.Option.{option_and_then}
 use Rattle.epl_values.specs.declared.value.Value.TheOpen as layer
 use Rattle.epl_values.specs.declared.value.Value.TheVariants as value

@@ -1,5 +1,6 @@
 -- Runs: what they change, and how they are put together.
-use Rattle.body_meaning.specs.Common.{ℕ, Bool, true, false, nat_le, List, [], ◌∷◌, ◌++◌, Result, Ok, Err, Value, Fault, Effect, Scene}
+use Rattle.std.specs.Prelude.{◌∷◌, ◌++◌}
+use Rattle.body_meaning.specs.Common.{ℕ, Bool, true, false, nat_le, List, [], Result, Ok, Err, Value, Fault, Effect, Scene}
 use Rattle.epl_values.specs.declared.value.Value.TheVariants as value
 use Rattle.action_host.specs.declared.host.Answer.{Answer}
 use Rattle.action_host.specs.declared.host.Answer.TheVariants as answer

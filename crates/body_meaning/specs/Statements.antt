@@ -1,5 +1,6 @@
 -- What statements mean. A statement is charged as it begins, but a block.
-use Rattle.body_meaning.specs.Common.{ℕ, zero, suc, Bool, true, false, List, [], ◌∷◌, ◌++◌, map, Option, Some, None, slice_get, Result, Ok, Err, Shape, EventShape, Value, TypedExpr, TypedSuffix, Site, Stmt, cost_of, default_of}
+use Rattle.std.specs.Prelude.{◌∷◌, ◌++◌}
+use Rattle.body_meaning.specs.Common.{ℕ, zero, suc, Bool, true, false, List, [], map, Option, Some, None, slice_get, Result, Ok, Err, Shape, EventShape, Value, TypedExpr, TypedSuffix, Site, Stmt, cost_of, default_of}
 use Rattle.epl_values.specs.declared.value.Value.TheVariants as value
 use Rattle.epl_tree.specs.declared.statement.Level.{Level}
 use Rattle.epl_tree.specs.declared.statement.Level.TheVariants as level

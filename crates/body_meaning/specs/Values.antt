@@ -1,6 +1,6 @@
 -- What operators compute from values. A value of another kind than is asked counts as 0, false, or empty.
-use Rattle.body_meaning.specs.Common.{ℕ, ◌+◌, ◌-◌, ◌==◌, not, ℤ, pos, negsuc, Bool, true, false, if◌then◌else◌, nat_lt, nat_le, List, [], ◌∷◌, ◌++◌, length, map, Option, Some, None, Result, Ok, Err, Ordering, Less, Equal, Greater, Value, Value-F, out-Value, Pair, order_of, Comparison, Operator, Fault}
-use Rattle.std.specs.Prelude.{◌^◌, ◌&&◌, ◌||◌, neg_ℤ, ◌+ℤ◌, ◌-ℤ◌, ◌*ℤ◌, int_le, int_div, int_rem}
+use Rattle.body_meaning.specs.Common.{ℕ, not, ℤ, pos, negsuc, Bool, true, false, nat_lt, nat_le, List, [], length, map, Option, Some, None, Result, Ok, Err, Ordering, Less, Equal, Greater, Value, Value-F, out-Value, Pair, order_of, Comparison, Operator, Fault}
+use Rattle.std.specs.Prelude.{◌+◌, ◌-◌, ◌==◌, if◌then◌else◌, ◌∷◌, ◌++◌, ◌^◌, ◌&&◌, ◌||◌, neg_ℤ, ◌+ℤ◌, ◌-ℤ◌, ◌*ℤ◌, int_le, int_div, int_rem}
 use Rattle.epl_values.specs.declared.value.Value.TheOpen as layer
 use Rattle.epl_values.specs.declared.value.Value.TheVariants as value
 use Rattle.epl_tree.specs.declared.expression.Comparison.TheVariants as comparison

@@ -1,5 +1,6 @@
 -- Births in ascending order, where listeners go and come.
-use Rattle.context_meaning.proofs.Common.{ℕ, ◌<◌, List, [], ◌∷◌, ◌++◌, map, filter, Bool, true, false, if◌then◌else◌, All, All-nil, All-cons, All-head, All-tail, All-filter, All-push, Listener}
+use Rattle.std.proofs.Common.{◌<◌, ◌∷◌, ◌++◌, if◌then◌else◌}
+use Rattle.context_meaning.proofs.Common.{ℕ, List, [], map, filter, Bool, true, false, All, All-nil, All-cons, All-head, All-tail, All-filter, All-push, Listener}
 use Rattle.std.proofs.lemmas.List.Elements.{All-map}
 use Rattle.context_meaning.specs.Fits.{Ascend}
 

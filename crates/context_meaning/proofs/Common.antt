@@ -1,5 +1,5 @@
 -- The names that most files here cite, passed on from one place. Declares nothing.
-pub use Rattle.std.proofs.Common.{All, Bool, Contains, Err, List, None, Option, Some, [], ap, arith, false, filter, find, if◌then◌else◌, inl, inr, length, length-append, map, nat_le, nat_lt, not, refl, slice_get, subst, suc, sym, true, zero, ℕ, ⊎_elim, ◌++◌, ◌+◌, ◌-◌, ◌<◌, ◌∙◌, ◌∷◌, ◌≡◌, ◌≤◌, ◌⊎◌}
+pub use Rattle.std.proofs.Common.{All, Bool, Contains, Err, List, None, Option, Some, [], ap, arith, false, filter, find, inl, inr, length, length-append, map, nat_le, nat_lt, not, refl, slice_get, subst, suc, sym, true, zero, ℕ, ⊎_elim, ◌∙◌}
 pub use Rattle.std.proofs.lemmas.Bool.{and_parts, cond_both, eqb-true}
 pub use Rattle.std.proofs.lemmas.List.Elements.{All-cons, All-contains, All-filter, All-head, All-nil, All-push, All-tail, All-weaker}
 pub use Rattle.std.proofs.lemmas.Option.{same_Some, slice_get_within}

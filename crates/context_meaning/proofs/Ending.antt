@@ -1,5 +1,6 @@
 -- Runs of bodies keep a context's fit, with what stands behind their ends.
-use Rattle.context_meaning.proofs.Common.{◌≡◌, ℕ, ◌<◌, List, [], Bool, true, false, not, length, slice_get, Option, Some, None, refl, cond_both, All-filter, All-weaker, Value, Program, Typed, End, Instance, Listener, Context, instance_of, is_instance, is_busy, unless_spent, without_instance, without_listeners, taken, act_in, run_in, last_run, ondie_of, dying, idle, finished, ran, fault_line, InstanceFits, ListenerFits, ContextFits, MayRun}
+use Rattle.std.proofs.Common.{◌≡◌, ◌<◌}
+use Rattle.context_meaning.proofs.Common.{ℕ, List, [], Bool, true, false, not, length, slice_get, Option, Some, None, refl, cond_both, All-filter, All-weaker, Value, Program, Typed, End, Instance, Listener, Context, instance_of, is_instance, is_busy, unless_spent, without_instance, without_listeners, taken, act_in, run_in, last_run, ondie_of, dying, idle, finished, ran, fault_line, InstanceFits, ListenerFits, ContextFits, MayRun}
 use Rattle.action_host.specs.declared.host.End.TheVariants as end
 use Rattle.context_meaning.specs.Contexts.{is_its}
 use Rattle.context_meaning.specs.Ends.{come, ended}

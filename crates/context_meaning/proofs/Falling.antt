@@ -1,5 +1,6 @@
 -- The fuel of a context, with the events in its row, never grows, and what waits in front stays.
-use Rattle.context_meaning.proofs.Common.{◌≡◌, ℕ, ◌+◌, ◌-◌, ◌≤◌, List, [], ◌∷◌, ◌++◌, length, length-append, Bool, true, false, nat_le, if◌then◌else◌, Option, Some, None, refl, ◌∙◌, arith, find, cond_both, Value, Program, Monitor, Site, TemplateShape, Effect, End, Act, Cargo, Instance, Listener, Context, apply, apply_all, charged, instance_of, is_busy, scene_of, spend, unless_spent, with_globals, with_instance, with_listener, without_instance, without_listeners, act_in, dying, fault_line, finished, idle, last_run, ondie_of, ran, run_in, taken, begun, births_in, body_number, callback_locals, completed, defaults_in, event_handled, fits, handled, is_born, is_empty, load_handled, stepped, stepped_born, stepped_found, template_of}
+use Rattle.std.proofs.Common.{◌≡◌, ◌+◌, ◌-◌, ◌≤◌, ◌∷◌, ◌++◌, if◌then◌else◌}
+use Rattle.context_meaning.proofs.Common.{ℕ, List, [], length, length-append, Bool, true, false, nat_le, Option, Some, None, refl, ◌∙◌, arith, find, cond_both, Value, Program, Monitor, Site, TemplateShape, Effect, End, Act, Cargo, Instance, Listener, Context, apply, apply_all, charged, instance_of, is_busy, scene_of, spend, unless_spent, with_globals, with_instance, with_listener, without_instance, without_listeners, act_in, dying, fault_line, finished, idle, last_run, ondie_of, ran, run_in, taken, begun, births_in, body_number, callback_locals, completed, defaults_in, event_handled, fits, handled, is_born, is_empty, load_handled, stepped, stepped_born, stepped_found, template_of}
 use Rattle.std.specs.Prelude.{slice_get}
 use Rattle.action_host.specs.declared.host.Effect.TheVariants as effect
 use Rattle.action_host.specs.declared.host.End.TheVariants as end

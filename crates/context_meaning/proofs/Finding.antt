@@ -1,5 +1,6 @@
 -- What is found in a list by a test, and instances that are found by their numbers.
-use Rattle.context_meaning.proofs.Common.{◌≡◌, ℕ, List, [], ◌∷◌, ◌++◌, Bool, true, false, not, if◌then◌else◌, Option, Some, None, All, Contains, filter, find, ◌⊎◌, inl, inr, ⊎_elim, refl, sym, ap, subst, ◌∙◌, eqb-true, same_Some, All-contains, All-cons, All-head, All-tail, Value, Instance, is_instance, put_globals}
+use Rattle.std.proofs.Common.{◌≡◌, ◌∷◌, ◌++◌, if◌then◌else◌, ◌⊎◌}
+use Rattle.context_meaning.proofs.Common.{ℕ, List, [], Bool, true, false, not, Option, Some, None, All, Contains, filter, find, inl, inr, ⊎_elim, refl, sym, ap, subst, ◌∙◌, eqb-true, same_Some, All-contains, All-cons, All-head, All-tail, Value, Instance, is_instance, put_globals}
 use Rattle.std.proofs.lemmas.Bool.{eq-eqb, both_ways, not-true}
 use Rattle.std.proofs.lemmas.List.Elements.{Contains-append_left, Contains-append_right, Contains-push, filter_passes}
 

@@ -1,6 +1,6 @@
 -- Which bodies may run in an instance: `onload` and `ondie` of its monitor, and the callbacks of its listeners.
-use Rattle.context_meaning.proofs.Common.{◌≡◌, ℕ, zero, suc, ◌+◌, ◌-◌, ◌≤◌, List, [], ◌∷◌, ◌++◌, map, length, slice_get, Bool, true, Option, Some, None, refl, sym, ap, subst, ◌∙◌, arith, find, list_all, and_parts, eqb-true, cond_both, same_Some, slice_get_within, Shape, EventShape, Value, Value-F, out-Value, Pair, Program, Action, Monitor, Site, TemplateShape, Term, stands, ends_plain, runs_plain, Typed, default_of, AllFit, fit_nil, fit_cons, default_fits, head_of, Instance, Listener, is_instance, ondie_of, body_number, callback_locals, fits, template_of, ListenerFits, MayRun}
-use Rattle.std.proofs.Common.{option_map}
+use Rattle.context_meaning.proofs.Common.{ℕ, zero, suc, List, [], map, length, slice_get, Bool, true, Option, Some, None, refl, sym, ap, subst, ◌∙◌, arith, find, list_all, and_parts, eqb-true, cond_both, same_Some, slice_get_within, Shape, EventShape, Value, Value-F, out-Value, Pair, Program, Action, Monitor, Site, TemplateShape, Term, stands, ends_plain, runs_plain, Typed, default_of, AllFit, fit_nil, fit_cons, default_fits, head_of, Instance, Listener, is_instance, ondie_of, body_number, callback_locals, fits, template_of, ListenerFits, MayRun}
+use Rattle.std.proofs.Common.{◌≡◌, ◌+◌, ◌-◌, ◌≤◌, ◌∷◌, ◌++◌, option_map}
 use Rattle.std.proofs.lemmas.Bool.{and_from, lt-ltb, le-ltb, cond-true, cond-false}
 use Rattle.std.proofs.lemmas.Option.{slice_get-map, cond_some}
 use Rattle.epl_values.specs.declared.shape.Shape.TheVariants as shape

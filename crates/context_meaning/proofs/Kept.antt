@@ -1,5 +1,6 @@
 -- What naive evaluation of a typed program keeps of its contexts, as the code that handles entries asks for it.
-use Rattle.context_meaning.proofs.Common.{◌≡◌, ℕ, ◌+◌, [], slice_get, true, Some, Contains, refl, slice_get_within, Value, out-Value, Program, Monitor, Site, TemplateShape, Typed, Cargo, Instance, Listener, Context, instance_of, with_instance, ondie_of, body_number, callback_locals, defaults_in, first_handled, fits, handled, rowed, stepped_born, template_of, CargoFits, ContextFits, MayRun}
+use Rattle.std.proofs.Common.{◌≡◌, ◌+◌}
+use Rattle.context_meaning.proofs.Common.{ℕ, [], slice_get, true, Some, Contains, refl, slice_get_within, Value, out-Value, Program, Monitor, Site, TemplateShape, Typed, Cargo, Instance, Listener, Context, instance_of, with_instance, ondie_of, body_number, callback_locals, defaults_in, first_handled, fits, handled, rowed, stepped_born, template_of, CargoFits, ContextFits, MayRun}
 use Rattle.value_shapes.specs.Fits.{IsEvent}
 use Rattle.context_meaning.proofs.Running.{RunsKeepShapes}
 use Rattle.context_meaning.proofs.Turning.{defaults_in_fit, instance_fits, instance_found, may_callback, may_ondie, may_onload, stepped_born_fits}

@@ -1,6 +1,6 @@
 -- Runs pay for what they route: the fuel behind a run, with the events that it routed, is at most the fuel before it.
-use Rattle.context_meaning.proofs.Common.{◌≡◌, ℕ, ◌+◌, ◌≤◌, List, [], ◌∷◌, ◌++◌, Bool, true, false, nat_lt, nat_le, Err, refl, sym, subst, arith, AllByRecursion, cond_both, Value, Value-F, out-Value, Pair, cost_of, Effect, Scene, Outcome, Went, Ended, M}
-use Rattle.std.proofs.Common.{◌==◌, Result, Ok, leb-true}
+use Rattle.context_meaning.proofs.Common.{ℕ, List, [], Bool, true, false, nat_lt, nat_le, Err, refl, sym, subst, arith, AllByRecursion, cond_both, Value, Value-F, out-Value, Pair, cost_of, Effect, Scene, Outcome, Went, Ended, M}
+use Rattle.std.proofs.Common.{◌≡◌, ◌+◌, ◌≤◌, ◌∷◌, ◌++◌, ◌==◌, Result, Ok, leb-true}
 use Rattle.epl_values.specs.declared.value.Value.{map-Value, fold_out-Value}
 use Rattle.epl_values.specs.declared.value.Value.TheOpen as layer
 use Rattle.value_rules.specs.Costs.{cost_step, pair_cost, pair_step}

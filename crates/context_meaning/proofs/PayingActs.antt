@@ -1,5 +1,6 @@
 -- Whole runs pay for what they route.
-use Rattle.context_meaning.proofs.Common.{ℕ, zero, suc, ◌+◌, ◌-◌, ◌≤◌, nat_lt, length, List, [], ◌∷◌, ◌++◌, Option, Some, None, cond_both, Shape, Value, Program, Global, Action, Site, TypedExpr, Stmt, Scene, Flow, M, Outcome, Went, Ended, Calls, body_of, Act, act_of, come_to}
+use Rattle.std.proofs.Common.{◌+◌, ◌-◌, ◌≤◌, ◌∷◌, ◌++◌}
+use Rattle.context_meaning.proofs.Common.{ℕ, zero, suc, nat_lt, length, List, [], Option, Some, None, cond_both, Shape, Value, Program, Global, Action, Site, TypedExpr, Stmt, Scene, Flow, M, Outcome, Went, Ended, Calls, body_of, Act, act_of, come_to}
 use Rattle.std.specs.Prelude.{slice_get}
 use Rattle.body_meaning.specs.Acts.{act, action_run, begun_by, calls, defaults_of, enter, in_locals, initial_by, initials_from, run_of, runs, site_run}
 use Rattle.context_meaning.proofs.Paying.{Pays, OutcomePays, routed, pays_pure, pays_given, pays_look, pays_charge, pays_change, pays_bind, pays_seq}

@@ -1,5 +1,6 @@
 -- Effects and methods pay for what they route.
-use Rattle.context_meaning.proofs.Common.{ℕ, Bool, false, List, [], ◌∷◌, refl, Value, Value-F, out-Value, Pair, EventShape, Term, Method, M}
+use Rattle.std.proofs.Common.{◌∷◌}
+use Rattle.context_meaning.proofs.Common.{ℕ, Bool, false, List, [], refl, Value, Value-F, out-Value, Pair, EventShape, Term, Method, M}
 use Rattle.epl_values.specs.declared.value.Value.TheOpen as layer
 use Rattle.epl_values.specs.declared.value.Value.TheVariants as value
 use Rattle.typed_program.specs.declared.expression.Method.TheVariants as method

@@ -1,5 +1,6 @@
 -- Expressions pay for what they route: one induction over typed trees.
-use Rattle.context_meaning.proofs.Common.{◌≡◌, ℕ, List, [], ◌∷◌, ◌++◌, map, Option, Some, None, sym, subst, AllByRecursion, Shape, EventShape, Value, Pair, Method, TypedExpr, TypedSuffix, Move, M, Calls, Reach, value_of}
+use Rattle.std.proofs.Common.{◌≡◌, ◌∷◌, ◌++◌}
+use Rattle.context_meaning.proofs.Common.{ℕ, List, [], map, Option, Some, None, sym, subst, AllByRecursion, Shape, EventShape, Value, Pair, Method, TypedExpr, TypedSuffix, Move, M, Calls, Reach, value_of}
 use Rattle.epl_values.specs.declared.value.Value.TheVariants as value
 use Rattle.epl_tree.specs.declared.expression.Operator.{Operator}
 use Rattle.typed_program.specs.declared.expression.Method.TheVariants as method

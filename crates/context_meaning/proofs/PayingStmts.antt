@@ -1,5 +1,6 @@
 -- Statements pay for what they route.
-use Rattle.context_meaning.proofs.Common.{◌≡◌, ℕ, zero, suc, List, [], ◌∷◌, map, Option, Some, None, sym, subst, Err, AllByRecursion, EventShape, Value, cost_of, Site, TypedExpr, TypedSuffix, Stmt, Flow, Move, M, Calls, Reach, value_of, body_of}
+use Rattle.std.proofs.Common.{◌≡◌, ◌∷◌}
+use Rattle.context_meaning.proofs.Common.{ℕ, zero, suc, List, [], map, Option, Some, None, sym, subst, Err, AllByRecursion, EventShape, Value, cost_of, Site, TypedExpr, TypedSuffix, Stmt, Flow, Move, M, Calls, Reach, value_of, body_of}
 use Rattle.std.specs.Prelude.{slice_get}
 use Rattle.typed_program.specs.declared.statement.TypedPlace.{TypedPlace}
 use Rattle.typed_program.specs.declared.statement.Stmt.{Stmt-F, map-Stmt, roll-Stmt, fold-roll-Stmt, ind-Stmt}

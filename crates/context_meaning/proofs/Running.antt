@@ -1,5 +1,6 @@
 -- What a run comes to keeps a context's fit.
-use Rattle.context_meaning.proofs.Common.{◌≡◌, ℕ, ◌+◌, ◌<◌, ◌≤◌, List, [], ◌∷◌, ◌++◌, filter, slice_get, Bool, true, false, if◌then◌else◌, Option, Some, None, All, refl, sym, ap, subst, ◌∙◌, arith, same_Some, All-head, All-tail, All-filter, All-push, All-weaker, Value, out-Value, Program, Site, Typed, Effect, Scene, Outcome, Went, Ended, Act, act_of, come_to, AllFit, head_of, GlobalsFit, Instance, Listener, Context, instance_of, is_instance, scene_of, spend, put_globals, with_globals, with_listener, apply, apply_all, taken, act_in, InstanceFits, ListenerFits, ContextFits, MayRun}
+use Rattle.std.proofs.Common.{◌≡◌, ◌+◌, ◌<◌, ◌≤◌, ◌∷◌, ◌++◌, if◌then◌else◌}
+use Rattle.context_meaning.proofs.Common.{ℕ, List, [], filter, slice_get, Bool, true, false, Option, Some, None, All, refl, sym, ap, subst, ◌∙◌, arith, same_Some, All-head, All-tail, All-filter, All-push, All-weaker, Value, out-Value, Program, Site, Typed, Effect, Scene, Outcome, Went, Ended, Act, act_of, come_to, AllFit, head_of, GlobalsFit, Instance, Listener, Context, instance_of, is_instance, scene_of, spend, put_globals, with_globals, with_listener, apply, apply_all, taken, act_in, InstanceFits, ListenerFits, ContextFits, MayRun}
 use Rattle.action_host.specs.declared.host.Effect.TheVariants as effect
 use Rattle.body_meaning.specs.Acts.{act}
 use Rattle.value_shapes.specs.Fits.{IsEvent}

@@ -1,5 +1,6 @@
 -- What waits in front is settled: each event that is handled leaves less fuel or fewer in front.
-use Rattle.context_meaning.proofs.Common.{◌≡◌, ℕ, zero, suc, ◌+◌, ◌<◌, ◌≤◌, List, [], ◌∷◌, length, length-append, Bool, true, false, if◌then◌else◌, ◌-◌, ◌⊎◌, inl, inr, ⊎_elim, refl, sym, ap, ◌∙◌, arith, Value, Program, Context, unless_spent, drained, event_handled, first_handled, front_handled, rowed, settled}
+use Rattle.std.proofs.Common.{◌≡◌, ◌+◌, ◌<◌, ◌≤◌, ◌∷◌, if◌then◌else◌, ◌-◌, ◌⊎◌}
+use Rattle.context_meaning.proofs.Common.{ℕ, zero, suc, List, [], length, length-append, Bool, true, false, inl, inr, ⊎_elim, refl, sym, ap, ◌∙◌, arith, Value, Program, Context, unless_spent, drained, event_handled, first_handled, front_handled, rowed, settled}
 use Rattle.context_meaning.proofs.Falling.{Falls, event_falls}
 
 -- fuel, and what waits in front

@@ -1,6 +1,6 @@
 -- Turns of listeners, events and new instances keep a context's fit.
-use Rattle.context_meaning.proofs.Common.{◌≡◌, ℕ, ◌+◌, ◌-◌, ◌<◌, ◌≤◌, List, [], ◌∷◌, ◌++◌, map, length, slice_get, true, nat_le, Option, Some, None, Contains, ⊎_elim, refl, sym, ap, subst, arith, find, list_all, and_parts, cond_both, slice_get_within, All-contains, All-push, All-weaker, Value, out-Value, Program, Monitor, Global, Site, TemplateShape, stands, ends_plain, runs_plain, Typed, default_of, AllFit, fit_nil, fit_cons, default_fits, GlobalsFit, Instance, Listener, Context, charged, instance_of, is_instance, spend, unless_spent, with_instance, ondie_of, ran, begun, births_in, body_number, callback_locals, completed, defaults_in, event_handled, fits, is_born, is_empty, load_handled, stepped, stepped_born, stepped_found, template_of, InstanceFits, ListenerFits, ContextFits, MayRun}
-use Rattle.std.proofs.Common.{eqb-true}
+use Rattle.context_meaning.proofs.Common.{ℕ, List, [], map, length, slice_get, true, nat_le, Option, Some, None, Contains, ⊎_elim, refl, sym, ap, subst, arith, find, list_all, and_parts, cond_both, slice_get_within, All-contains, All-push, All-weaker, Value, out-Value, Program, Monitor, Global, Site, TemplateShape, stands, ends_plain, runs_plain, Typed, default_of, AllFit, fit_nil, fit_cons, default_fits, GlobalsFit, Instance, Listener, Context, charged, instance_of, is_instance, spend, unless_spent, with_instance, ondie_of, ran, begun, births_in, body_number, callback_locals, completed, defaults_in, event_handled, fits, is_born, is_empty, load_handled, stepped, stepped_born, stepped_found, template_of, InstanceFits, ListenerFits, ContextFits, MayRun}
+use Rattle.std.proofs.Common.{◌≡◌, ◌+◌, ◌-◌, ◌<◌, ◌≤◌, ◌∷◌, ◌++◌, eqb-true}
 use Rattle.typed_program.specs.Programs.{global_shapes, global_so, initial_so}
 use Rattle.value_shapes.specs.Fits.{IsEvent}
 use Rattle.context_meaning.specs.Turns.{tested, turn}

@@ -1,6 +1,6 @@
 -- The names that most files here cite, passed on from one place. Declares nothing.
 pub use Rattle.std.specs.List.{find}
-pub use Rattle.std.specs.Prelude.{Bool, List, None, Option, Some, [], false, if◌then◌else◌, length, map, not, slice_get, true, ℕ, ◌++◌, ◌+◌, ◌==◌, ◌∷◌}
+pub use Rattle.std.specs.Prelude.{Bool, List, None, Option, Some, [], false, length, map, not, slice_get, true, ℕ}
 pub use Rattle.epl_values.specs.declared.value.Value.{Value, out-Value}
 pub use Rattle.typed_program.specs.declared.program.Monitor.{Monitor}
 pub use Rattle.typed_program.specs.declared.program.Program.{Program}

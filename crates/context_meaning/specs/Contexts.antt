@@ -1,6 +1,6 @@
 -- Contexts: instances, listeners, lines and fuel, and how each effect of a body changes them.
-use Rattle.context_meaning.specs.Common.{ℕ, ◌+◌, List, [], ◌∷◌, ◌++◌, Bool, true, false, not, ◌==◌, if◌then◌else◌, Option, find, Value}
-use Rattle.std.specs.Prelude.{◌-◌, nat_le, filter}
+use Rattle.context_meaning.specs.Common.{ℕ, List, [], Bool, true, false, not, Option, find, Value}
+use Rattle.std.specs.Prelude.{◌+◌, ◌∷◌, ◌++◌, ◌==◌, if◌then◌else◌, ◌-◌, nat_le, filter}
 use Rattle.std.specs.List.{list_any}
 use Rattle.action_host.specs.declared.host.Effect.{Effect}
 use Rattle.action_host.specs.declared.host.Effect.TheVariants as effect

@@ -1,5 +1,6 @@
 -- Runs of bodies in an instance, and how an instance ends.
-use Rattle.context_meaning.specs.Common.{ℕ, List, [], Bool, true, false, if◌then◌else◌, Option, Some, None, slice_get, Value, Program, Monitor}
+use Rattle.std.specs.Prelude.{if◌then◌else◌}
+use Rattle.context_meaning.specs.Common.{ℕ, List, [], Bool, true, false, Option, Some, None, slice_get, Value, Program, Monitor}
 use Rattle.action_host.specs.declared.host.Fault.{Fault}
 use Rattle.action_host.specs.declared.host.End.{End}
 use Rattle.action_host.specs.declared.host.End.TheVariants as end

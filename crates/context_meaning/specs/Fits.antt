@@ -1,6 +1,6 @@
 -- Contexts of typed programs: instances and listeners have what their monitors and sites say, and what waits in front are events.
-use Rattle.context_meaning.specs.Common.{ℕ, List, [], ◌∷◌, map, Some, slice_get, length, find, Value, out-Value, Program, Site}
-use Rattle.std.specs.Prelude.{◌≡◌, ◌≤◌, ◌<◌}
+use Rattle.context_meaning.specs.Common.{ℕ, List, [], map, Some, slice_get, length, find, Value, out-Value, Program, Site}
+use Rattle.std.specs.Prelude.{◌∷◌, ◌≡◌, ◌≤◌, ◌<◌}
 use Rattle.std.specs.List.{All}
 use Rattle.value_shapes.specs.Fits.{AllFit, IsEvent}
 use Rattle.typed_runs.specs.Bodies.{Head, head_of, GlobalsFit}

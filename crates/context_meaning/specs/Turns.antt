@@ -1,6 +1,6 @@
 -- How a context handles an entry, and what waits in front.
-use Rattle.context_meaning.specs.Common.{ℕ, ◌+◌, List, [], ◌∷◌, ◌++◌, Bool, true, false, not, ◌==◌, if◌then◌else◌, length, map, Option, Some, None, slice_get, find, Value, out-Value, Program, Site, Monitor}
-use Rattle.std.specs.Prelude.{zero, suc, ◌^◌, ◌&&◌, nat_lt, is_some}
+use Rattle.context_meaning.specs.Common.{ℕ, List, [], Bool, true, false, not, length, map, Option, Some, None, slice_get, find, Value, out-Value, Program, Site, Monitor}
+use Rattle.std.specs.Prelude.{◌+◌, ◌∷◌, ◌++◌, ◌==◌, if◌then◌else◌, zero, suc, ◌^◌, ◌&&◌, nat_lt, is_some}
 use Rattle.epl_values.specs.declared.shape.EventShape.{EventShape}
 use Rattle.epl_values.specs.declared.value.Value.{Value-F}
 use Rattle.epl_values.specs.declared.value.Value.TheOpen as layer

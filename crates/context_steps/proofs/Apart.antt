@@ -1,5 +1,6 @@
 -- What waits in front has no part in how an event is handled.
-use Rattle.context_steps.proofs.Common.{ℕ, ◌-◌, Bool, true, false, cond, List, [], ◌∷◌, Option, Some, None, slice_get, ◌≡◌, refl, sym, ap, ◌∙◌, nat_le, find, Value, Program, Effect, End, Act, Context, Instance, apply, apply_all, charged, instance_of, spend, unless_spent, act_in, fault_line, finished, idle, last_run, ondie_of, ran, run_in, taken, event_handled, is_born, stepped_born, Call, call_found, with_front}
+use Rattle.std.proofs.Common.{◌-◌, ◌∷◌, ◌≡◌}
+use Rattle.context_steps.proofs.Common.{ℕ, Bool, true, false, cond, List, [], Option, Some, None, slice_get, refl, sym, ap, ◌∙◌, nat_le, find, Value, Program, Effect, End, Act, Context, Instance, apply, apply_all, charged, instance_of, spend, unless_spent, act_in, fault_line, finished, idle, last_run, ondie_of, ran, run_in, taken, event_handled, is_born, stepped_born, Call, call_found, with_front}
 use Rattle.action_host.specs.declared.host.Effect.TheVariants as effect
 use Rattle.action_host.specs.declared.host.End.TheVariants as end
 use Rattle.context_meaning.specs.Contexts.{is_busy, with_globals, with_listener, without_instance, without_listeners}

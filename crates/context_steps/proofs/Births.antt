@@ -1,6 +1,6 @@
 -- Listeners in order of birth, and the one of a birth.
-use Rattle.context_steps.proofs.Common.{ℕ, zero, suc, ◌<◌, ◌≤◌, Bool, true, false, cond, eqb, ltb, List, [], ◌∷◌, length, Option, Some, None, slice_get, ◌≡◌, refl, sym, ap, ◌∙◌, arith, find, nat_tests, Listener}
-use Rattle.std.proofs.Common.{map}
+use Rattle.context_steps.proofs.Common.{ℕ, zero, suc, Bool, true, false, cond, eqb, ltb, List, [], length, Option, Some, None, slice_get, refl, sym, ap, ◌∙◌, arith, find, nat_tests, Listener}
+use Rattle.std.proofs.Common.{◌<◌, ◌≤◌, ◌∷◌, ◌≡◌, map}
 use Rattle.std.specs.Prelude.{slice_index_or, nat_lt, ◌==◌, if◌then◌else◌}
 use Rattle.std.specs.List.{All, AllByRecursion}
 use Rattle.std.specs.List.Sorted.{IsPartitionedBy, IsPartitionPoint}

@@ -1,6 +1,6 @@
 -- The names that a template binds.
-use Rattle.context_steps.proofs.Common.{ℕ, suc, ◌+◌, ◌<◌, List, [], ◌∷◌, ◌++◌, Option, ◌≡◌, sym, ap, ◌∙◌, length, Value}
-use Rattle.std.proofs.Common.{add-one, drop, get_or, append_assoc}
+use Rattle.context_steps.proofs.Common.{ℕ, suc, List, [], Option, sym, ap, ◌∙◌, length, Value}
+use Rattle.std.proofs.Common.{◌+◌, ◌<◌, ◌∷◌, ◌++◌, ◌≡◌, add-one, drop, get_or, append_assoc}
 use Rattle.std.proofs.Math.Seq.{drop-cons}
 use Rattle.epl_values.specs.declared.shape.EventShape.{EventShape}
 use Rattle.typed_program.specs.declared.program.Local.{Local}

@@ -1,5 +1,6 @@
 -- The callback that an event lets run at a listener.
-use Rattle.context_steps.proofs.Common.{ℕ, suc, ◌-◌, Bool, true, false, cond, List, [], ◌∷◌, Option, Some, None, slice_get, ◌≡◌, refl, sym, ap, subst, ◌∙◌, arith, nat_le, find, Value, Program, GlobalsFit, Context, Instance, Listener, charged, spend, unless_spent, is_instance, instance_of, ran, is_born, stepped_born, ContextFits, Call, CanRunIn, Keeps, call_found}
+use Rattle.std.proofs.Common.{◌-◌, ◌∷◌, ◌≡◌}
+use Rattle.context_steps.proofs.Common.{ℕ, suc, Bool, true, false, cond, List, [], Option, Some, None, slice_get, refl, sym, ap, subst, ◌∙◌, arith, nat_le, find, Value, Program, GlobalsFit, Context, Instance, Listener, charged, spend, unless_spent, is_instance, instance_of, ran, is_born, stepped_born, ContextFits, Call, CanRunIn, Keeps, call_found}
 use Rattle.std.specs.List.{Contains}
 use Rattle.epl_values.specs.declared.value.Value.{out-Value}
 use Rattle.typed_program.specs.declared.program.Site.{Site}

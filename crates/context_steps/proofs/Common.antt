@@ -1,5 +1,5 @@
 -- The names that most files here cite, passed on from one place. Declares nothing.
-pub use Rattle.std.proofs.Common.{Bool, List, None, Option, Some, [], ap, arith, cond, eqb, false, length, ltb, refl, slice_get, slice_set, subst, suc, sym, true, zero, ℕ, ◌++◌, ◌+◌, ◌-◌, ◌<◌, ◌∙◌, ◌∷◌, ◌≡◌, ◌≤◌}
+pub use Rattle.std.proofs.Common.{Bool, List, None, Option, Some, [], ap, arith, cond, eqb, false, length, ltb, refl, slice_get, slice_set, subst, suc, sym, true, zero, ℕ, ◌∙◌}
 pub use Rattle.std.proofs.lemmas.Bool.Decides.{nat_tests}
 pub use Rattle.std.specs.List.{find}
 pub use Rattle.std.specs.Prelude.{nat_le}

@@ -1,6 +1,6 @@
 -- Loads, and what waits in front.
-use Rattle.context_steps.proofs.Common.{ℕ, zero, suc, ◌+◌, ◌-◌, ◌<◌, Bool, true, false, cond, List, [], ◌∷◌, Some, slice_get, ◌≡◌, refl, sym, ap, subst, ◌∙◌, arith, ◌++◌, Value, Program, Context, unless_spent, ran, event_handled, ContextFits, CanRunIn, Keeps, with_front}
-use Rattle.std.proofs.Common.{reverse}
+use Rattle.context_steps.proofs.Common.{ℕ, zero, suc, Bool, true, false, cond, List, [], Some, slice_get, refl, sym, ap, subst, ◌∙◌, arith, Value, Program, Context, unless_spent, ran, event_handled, ContextFits, CanRunIn, Keeps, with_front}
+use Rattle.std.proofs.Common.{◌+◌, ◌-◌, ◌<◌, ◌∷◌, ◌≡◌, ◌++◌, reverse}
 use Rattle.std.proofs.lemmas.List.{reverse-append}
 use Rattle.typed_program.specs.declared.program.Monitor.{Monitor}
 use Rattle.context_meaning.specs.declared.cargo.Cargo.{Cargo}

@@ -1,6 +1,6 @@
 -- The first instance with a number, and its place.
-use Rattle.context_steps.proofs.Common.{ℕ, zero, suc, ◌+◌, ◌<◌, ◌≤◌, Bool, true, false, cond, List, [], ◌∷◌, length, Option, Some, None, slice_set, ◌≡◌, refl, sym, ap, subst, ◌∙◌, ltb, eqb, arith, find, nat_tests, Value, Instance, is_instance, put_globals, FoundAt}
-use Rattle.std.proofs.Common.{MatchOption}
+use Rattle.context_steps.proofs.Common.{ℕ, zero, suc, Bool, true, false, cond, List, [], length, Option, Some, None, slice_set, refl, sym, ap, subst, ◌∙◌, ltb, eqb, arith, find, nat_tests, Value, Instance, is_instance, put_globals, FoundAt}
+use Rattle.std.proofs.Common.{◌+◌, ◌<◌, ◌≤◌, ◌∷◌, ◌≡◌, MatchOption}
 use Rattle.std.specs.List.{position, position_or_len}
 use Rattle.std.proofs.lemmas.List.Recursion.{is_position_or_len}
 

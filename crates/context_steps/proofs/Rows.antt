@@ -1,5 +1,6 @@
 -- Effects in a row.
-use Rattle.context_steps.proofs.Common.{ℕ, Bool, List, [], ◌∷◌, ◌++◌, ◌≡◌, refl, sym, ap, ◌∙◌, Effect, Context, apply, apply_all}
+use Rattle.std.proofs.Common.{◌∷◌, ◌++◌, ◌≡◌}
+use Rattle.context_steps.proofs.Common.{ℕ, Bool, List, [], refl, sym, ap, ◌∙◌, Effect, Context, apply, apply_all}
 
 -- effects, and then further ones
 pub apply_all_both : (i : ℕ) (ending : Bool) (es fs : List Effect) (c : Context) → apply_all i ending (es ++ fs) c ≡ apply_all i ending fs (apply_all i ending es c)

@@ -1,6 +1,6 @@
 -- Runs of bodies in instances.
-use Rattle.context_steps.proofs.Common.{ℕ, ◌-◌, ◌<◌, Bool, List, [], ◌++◌, Option, Some, None, slice_get, slice_set, ◌≡◌, refl, sym, ap, subst, ◌∙◌, find, Value, Program, GlobalsFit, End, Act, Context, Instance, is_instance, instance_of, put_globals, apply_all, act_in, taken, run_in, last_run, finished, ondie_of, fault_line, idle, FoundAt, CanRunIn, Keeps}
-use Rattle.std.proofs.Common.{◌^◌}
+use Rattle.context_steps.proofs.Common.{ℕ, Bool, List, [], Option, Some, None, slice_get, slice_set, refl, sym, ap, subst, ◌∙◌, find, Value, Program, GlobalsFit, End, Act, Context, Instance, is_instance, instance_of, put_globals, apply_all, act_in, taken, run_in, last_run, finished, ondie_of, fault_line, idle, FoundAt, CanRunIn, Keeps}
+use Rattle.std.proofs.Common.{◌-◌, ◌<◌, ◌++◌, ◌≡◌, ◌^◌}
 use Rattle.typed_runs.specs.Bodies.{head_of, HeadFits, BodyFits, StillFit}
 use Rattle.action_host.specs.declared.host.End.TheVariants as end
 use Rattle.action_host.specs.Scenes.{Scene}

@@ -1,6 +1,6 @@
 -- The callbacks that an event lets run, and charges.
-use Rattle.context_steps.specs.Common.{ℕ, ◌-◌, List, [], Some, slice_get, Value, Program, Site, TemplateShape, Context, Listener, template_of, fits, body_number, callback_locals}
-use Rattle.std.specs.Prelude.{suc, if◌then◌else◌, nat_le, nat_lt, ◌∷◌, Option, None}
+use Rattle.context_steps.specs.Common.{ℕ, List, [], Some, slice_get, Value, Program, Site, TemplateShape, Context, Listener, template_of, fits, body_number, callback_locals}
+use Rattle.std.specs.Prelude.{◌-◌, suc, if◌then◌else◌, nat_le, nat_lt, ◌∷◌, Option, None}
 use Rattle.epl_values.specs.declared.shape.EventShape.{EventShape}
 use Rattle.typed_program.specs.declared.program.Local.{Local}
 use Rattle.value_rules.specs.Defaults.{default_of}

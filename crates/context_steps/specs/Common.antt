@@ -1,5 +1,5 @@
 -- The names that most files here cite, passed on from one place. Declares nothing.
-pub use Rattle.std.specs.Prelude.{List, Some, [], slice_get, ℕ, ◌-◌, ◌≡◌}
+pub use Rattle.std.specs.Prelude.{List, Some, [], slice_get, ℕ}
 pub use Rattle.context_meaning.specs.Fits.{ContextFits}
 pub use Rattle.context_meaning.specs.Turns.{body_number, callback_locals, fits, template_of}
 pub use Rattle.context_meaning.specs.declared.context.Context.{Context}

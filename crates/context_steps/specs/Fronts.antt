@@ -1,6 +1,6 @@
 -- Contexts with what waits in front beside them.
-use Rattle.context_steps.specs.Common.{◌≡◌, List, [], Value, Program, Context, ContextFits}
-use Rattle.std.specs.Prelude.{reverse}
+use Rattle.context_steps.specs.Common.{List, [], Value, Program, Context, ContextFits}
+use Rattle.std.specs.Prelude.{◌≡◌, reverse}
 
 abbrev pub with_front : List Value → Context → Context
 with_front events c = record c { front = events }

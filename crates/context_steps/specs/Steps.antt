@@ -1,6 +1,6 @@
 -- What runs of bodies ask of the context that they run in, and what they come to.
-use Rattle.context_steps.specs.Common.{◌≡◌, ℕ, ◌-◌, List, [], Some, slice_get, Value, Program, Site, TemplateShape, Context, Listener, template_of, fits, body_number, callback_locals, ContextFits}
-use Rattle.std.specs.Prelude.{◌+◌, ◌<◌, ◌^◌, Bool, true, length, slice_set}
+use Rattle.context_steps.specs.Common.{ℕ, List, [], Some, slice_get, Value, Program, Site, TemplateShape, Context, Listener, template_of, fits, body_number, callback_locals, ContextFits}
+use Rattle.std.specs.Prelude.{◌≡◌, ◌-◌, ◌+◌, ◌<◌, ◌^◌, Bool, true, length, slice_set}
 use Rattle.std.specs.List.{find, Contains}
 use Rattle.epl_values.specs.declared.value.Value.{out-Value}
 use Rattle.typed_program.specs.declared.program.Monitor.{Monitor}

@@ -1,6 +1,6 @@
 -- A file cut into its first line and the rest.
-use Rattle.evt_reader.proofs.Common.{◌≡◌, ℕ, ◌+◌, ◌-◌, ◌<◌, ◌≤◌, List, [], ◌∷◌, length, take, drop, cond, ◌==◌, Some, refl, sym, ◌∙◌, ap, arith, lines, ne_eqb, TakesOff}
-use Rattle.std.proofs.Common.{length-drop}
+use Rattle.evt_reader.proofs.Common.{ℕ, List, [], length, take, drop, cond, Some, refl, sym, ◌∙◌, ap, arith, lines, ne_eqb, TakesOff}
+use Rattle.std.proofs.Common.{◌≡◌, ◌+◌, ◌-◌, ◌<◌, ◌≤◌, ◌∷◌, ◌==◌, length-drop}
 use Rattle.std.specs.List.{position_or_len, slice_split, before_first, after_first}
 use Rattle.std.specs.Str.Lines.{lines_of_parts, strip_carriage_return}
 use Rattle.std.proofs.lemmas.List.{drop_all, take_rest}

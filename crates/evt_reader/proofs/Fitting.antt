@@ -1,6 +1,6 @@
 -- What is spelled fits its shape, and so the items of a file fit the program.
-use Rattle.evt_reader.proofs.Common.{ℕ, zero, suc, List, [], ◌∷◌, ◌++◌, Bool, true, false, Option, Some, None, Ok, sym, subst, flat_map, option_to_list, EventShape, Value, Item, Event, Spells, AreLines, GivesItems, IsLine, lines_of}
-use Rattle.std.proofs.Common.{map}
+use Rattle.evt_reader.proofs.Common.{ℕ, zero, suc, List, [], Bool, true, false, Option, Some, None, Ok, sym, subst, flat_map, option_to_list, EventShape, Value, Item, Event, Spells, AreLines, GivesItems, IsLine, lines_of}
+use Rattle.std.proofs.Common.{◌∷◌, ◌++◌, map}
 use Rattle.std.proofs.lemmas.List.Elements.{All-cons, All-nil}
 use Rattle.epl_values.specs.declared.shape.Shape.{Shape, Shape-F, out-Shape, roll-Shape, roll-out-Shape}
 use Rattle.epl_values.specs.declared.shape.Shape.TheFolds.{fold_out-Shape, map-Shape}

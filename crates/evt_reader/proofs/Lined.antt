@@ -1,6 +1,6 @@
 -- The items of a file, line by line.
-use Rattle.evt_reader.proofs.Common.{◌≡◌, ℕ, zero, suc, ◌+◌, ◌<◌, ◌≤◌, List, [], ◌∷◌, ◌++◌, length, take, ◌&&◌, ◌==◌, Option, Some, None, Result, Ok, Err, slice_get, refl, sym, ◌∙◌, ap, arith, append_assoc, length-append, inl, inr, flat_map, option_to_list, IsErrAnd, lines, same_Some, err_from_is_err_and, EventShape, Item, AreEventTypes, IsLine, AreLines, lines_of, GivesItems, TakesOff}
-use Rattle.std.proofs.Common.{append-nil}
+use Rattle.evt_reader.proofs.Common.{ℕ, zero, suc, List, [], length, take, Option, Some, None, Result, Ok, Err, slice_get, refl, sym, ◌∙◌, ap, arith, append_assoc, length-append, inl, inr, flat_map, option_to_list, IsErrAnd, lines, same_Some, err_from_is_err_and, EventShape, Item, AreEventTypes, IsLine, AreLines, lines_of, GivesItems, TakesOff}
+use Rattle.std.proofs.Common.{◌≡◌, ◌+◌, ◌<◌, ◌≤◌, ◌∷◌, ◌++◌, ◌&&◌, ◌==◌, append-nil}
 use Rattle.std.proofs.lemmas.Bool.{cases_order, cond_both}
 use Rattle.std.proofs.lemmas.Option.{none-some}
 use Rattle.evt_reader.specs.Files.{without_mark}

@@ -1,6 +1,6 @@
 -- What a line says, and that it says no more than one thing.
-use Rattle.evt_reader.proofs.Common.{◌≡◌, ℕ, ◌-◌, ◌≤◌, List, [], ◌∷◌, ◌++◌, length, take, drop, Bool, true, false, cond, ◌&&◌, ◌==◌, Option, Some, None, Result, Err, refl, sym, subst, ◌∙◌, ap, arith, append_assoc, length-append, inl, inr, ne_eqb, IsErrAnd, err_from_is_err_and, EventShape, Value, Item, Event, AreEventTypes, Spells, IsLine, HasName, LacksName}
-use Rattle.std.proofs.Common.{◌||◌, nat_le, eqb-true}
+use Rattle.evt_reader.proofs.Common.{ℕ, List, [], length, take, drop, Bool, true, false, cond, Option, Some, None, Result, Err, refl, sym, subst, ◌∙◌, ap, arith, append_assoc, length-append, inl, inr, ne_eqb, IsErrAnd, err_from_is_err_and, EventShape, Value, Item, Event, AreEventTypes, Spells, IsLine, HasName, LacksName}
+use Rattle.std.proofs.Common.{◌≡◌, ◌-◌, ◌≤◌, ◌∷◌, ◌++◌, ◌&&◌, ◌==◌, ◌||◌, nat_le, eqb-true}
 use Rattle.std.specs.List.{AllByRecursion, slice_range}
 use Rattle.std.specs.Str.{IsUtf8}
 use Rattle.std.proofs.lemmas.Bool.{or_cases, or_left, and_parts, and_from, false≢true, leb-true}

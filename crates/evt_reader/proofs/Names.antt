@@ -1,5 +1,6 @@
 -- The event types up to a place.
-use Rattle.evt_reader.proofs.Common.{◌≡◌, ℕ, ◌+◌, ◌<◌, ◌≤◌, List, length, Some, slice_get, sym, ◌∙◌, ap, arith, inl, inr, same_Some, EventShape, HasName, LacksName}
+use Rattle.std.proofs.Common.{◌≡◌, ◌+◌, ◌<◌, ◌≤◌}
+use Rattle.evt_reader.proofs.Common.{ℕ, List, length, Some, slice_get, sym, ◌∙◌, ap, arith, inl, inr, same_Some, EventShape, HasName, LacksName}
 use Rattle.std.proofs.lemmas.Bool.{cases_eq}
 use Rattle.epl_values.specs.declared.shape.Shape.TheVariants.{Event}
 use Rattle.event_types.specs.Types.{form_of, types_in, AreTypes}

@@ -1,6 +1,6 @@
 -- Event files: what their lines mean.
-use Rattle.evt_reader.specs.Common.{◌≡◌, ℕ, List, [], ◌∷◌, ◌++◌, length, ◌&&◌, ◌==◌, if◌then◌else◌, Option, Some, None, Result, Ok, Err, slice_get, option_to_list, lines, EventShape, Value, Item}
-use Rattle.std.specs.Prelude.{◌+◌, ◌≤◌, ◌⊎◌, take}
+use Rattle.evt_reader.specs.Common.{ℕ, List, [], length, Option, Some, None, Result, Ok, Err, slice_get, option_to_list, lines, EventShape, Value, Item}
+use Rattle.std.specs.Prelude.{◌≡◌, ◌∷◌, ◌++◌, ◌&&◌, ◌==◌, if◌then◌else◌, ◌+◌, ◌≤◌, ◌⊎◌, take}
 use Rattle.std.specs.List.{flat_map}
 use Rattle.std.specs.Str.{IsUtf8}
 use Rattle.epl_values.specs.declared.shape.Shape.TheVariants as shape

@@ -1,6 +1,6 @@
 -- What the steps of reading an event file give.
-use Rattle.evt_reader.specs.Common.{◌≡◌, ℕ, List, [], ◌∷◌, ◌++◌, length, ◌&&◌, ◌==◌, if◌then◌else◌, Option, Some, None, Result, Ok, Err, slice_get, option_to_list, lines, EventShape, Value, Item}
-use Rattle.std.specs.Prelude.{◌<◌, Bool, true, false, ◌||◌}
+use Rattle.evt_reader.specs.Common.{ℕ, List, [], length, Option, Some, None, Result, Ok, Err, slice_get, option_to_list, lines, EventShape, Value, Item}
+use Rattle.std.specs.Prelude.{◌≡◌, ◌∷◌, ◌++◌, ◌&&◌, ◌==◌, if◌then◌else◌, ◌<◌, Bool, true, false, ◌||◌}
 use Rattle.evt_text.specs.Forms.{is_letter, is_digit}
 use Rattle.evt_text.specs.Spelling.{is_blank}
 use Rattle.evt_text.specs.declared.fault.TextFault.{TextFault}

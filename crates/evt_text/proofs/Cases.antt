@@ -1,6 +1,6 @@
 -- Tests and readings that gave something, taken apart.
-use Rattle.evt_text.proofs.Common.{◌≡◌, List, [], ◌++◌, Bool, true, false, cond, Option, Some, None, refl, ap, inl, inr, append_assoc, option_map, same_Some, with_front}
-use Rattle.std.proofs.Common.{◌⊎◌}
+use Rattle.evt_text.proofs.Common.{List, [], Bool, true, false, cond, Option, Some, None, refl, ap, inl, inr, append_assoc, option_map, same_Some, with_front}
+use Rattle.std.proofs.Common.{◌≡◌, ◌++◌, ◌⊎◌}
 use Rattle.evt_text.specs.Reading.{◌>>=◌}
 
 -- a test that was made, and where it led

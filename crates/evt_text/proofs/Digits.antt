@@ -1,5 +1,6 @@
 -- Digits, one by one.
-use Rattle.evt_text.proofs.Common.{◌≡◌, ℕ, ◌+◌, ◌-◌, ◌*◌, ◌<◌, ◌≤◌, ◌==◌, pos, neg_ℤ, List, [], ◌∷◌, length, true, Some, None, refl, sym, ap, arith, inl, inr, le-leb, and_from, is_digit, behind_sign, digit_at, digits_from}
+use Rattle.std.proofs.Common.{◌≡◌, ◌+◌, ◌-◌, ◌*◌, ◌<◌, ◌≤◌, ◌==◌, ◌∷◌}
+use Rattle.evt_text.proofs.Common.{ℕ, pos, neg_ℤ, List, [], length, true, Some, None, refl, sym, ap, arith, inl, inr, le-leb, and_from, is_digit, behind_sign, digit_at, digits_from}
 use Rattle.std.proofs.lemmas.Bool.{lt-leb, and_right}
 use Rattle.evt_text.specs.Reading.{◌>>=◌, number_at, integer_at}
 use Rattle.evt_text.proofs.Fronts.{behind_sign-is}

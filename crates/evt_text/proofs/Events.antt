@@ -1,6 +1,6 @@
 -- The spellings of events at one place.
-use Rattle.evt_text.proofs.Common.{◌≡◌, ℕ, zero, suc, ◌+◌, ◌<◌, List, [], ◌∷◌, ◌++◌, length, false, ◌||◌, ◌==◌, Some, refl, sym, ◌∙◌, ap, arith, append_assoc, inl, inr, slice_get, or_cases, none-some, EventShape, Event, Value, is_letter, is_digit, HasNames, EventForm, HasKnownFields, HasNoCycle, AreBlanks, SpellsWithin}
-use Rattle.std.proofs.Common.{eqb-true}
+use Rattle.evt_text.proofs.Common.{ℕ, zero, suc, List, [], length, false, Some, refl, sym, ◌∙◌, ap, arith, append_assoc, inl, inr, slice_get, or_cases, none-some, EventShape, Event, Value, is_letter, is_digit, HasNames, EventForm, HasKnownFields, HasNoCycle, AreBlanks, SpellsWithin}
+use Rattle.std.proofs.Common.{◌≡◌, ◌+◌, ◌<◌, ◌∷◌, ◌++◌, ◌||◌, ◌==◌, eqb-true}
 use Rattle.evt_text.specs.Spelling.{Spells}
 use Rattle.evt_text.specs.Reading.{value_from}
 use Rattle.evt_text.proofs.Cases.{pair-some}

@@ -1,5 +1,6 @@
 -- No event type, or one whose fields name no event types.
-use Rattle.evt_text.proofs.Common.{◌≡◌, ℕ, zero, suc, List, [], ◌∷◌, refl, arith, AllByRecursion, none-some, Field, EventShape, IsName, types_in, types_held, HasNoCycle}
+use Rattle.std.proofs.Common.{◌≡◌, ◌∷◌}
+use Rattle.evt_text.proofs.Common.{ℕ, zero, suc, List, [], refl, arith, AllByRecursion, none-some, Field, EventShape, IsName, types_in, types_held, HasNoCycle}
 use Rattle.std.specs.List.{flat_map}
 use Rattle.event_types.proofs.Depths.{none-known, none-cycle}
 use Rattle.evt_text.specs.Forms.{AreEventTypes}

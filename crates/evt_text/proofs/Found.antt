@@ -1,6 +1,6 @@
 -- The longest spelling at a place of a text.
-use Rattle.evt_text.proofs.Common.{◌≡◌, ℕ, ◌+◌, ◌-◌, ◌<◌, ◌≤◌, List, [], ◌∷◌, ◌++◌, length, take, drop, get_or, Some, None, sym, ◌∙◌, ap, arith, length-append, IsCharBoundary, take_at, none-some, Shape, EventShape, Value, HasNames, types_in, HasKnownFields, HasNoCycle}
-use Rattle.std.proofs.Common.{Result, Ok, Err, length-drop, add-zero}
+use Rattle.evt_text.proofs.Common.{ℕ, List, [], length, take, drop, get_or, Some, None, sym, ◌∙◌, ap, arith, length-append, IsCharBoundary, take_at, none-some, Shape, EventShape, Value, HasNames, types_in, HasKnownFields, HasNoCycle}
+use Rattle.std.proofs.Common.{◌≡◌, ◌+◌, ◌-◌, ◌<◌, ◌≤◌, ◌∷◌, ◌++◌, Result, Ok, Err, length-drop, add-zero}
 use Rattle.std.specs.List.{slice_range}
 use Rattle.std.proofs.lemmas.List.{get_or-drop}
 use Rattle.std.proofs.lemmas.List.Folds.{drop_split}

@@ -1,6 +1,6 @@
 -- The parts of a text, one by one.
-use Rattle.evt_text.proofs.Common.{◌≡◌, ℕ, List, [], ◌∷◌, ◌++◌, ◌==◌, Option, Some, None, refl, sym, ap, inl, inr, option_map, eqb-true, ne_eqb, behind_sign, behind_name}
-use Rattle.std.proofs.Common.{◌≢◌, eq-eqb, Bor, MatchOption}
+use Rattle.evt_text.proofs.Common.{ℕ, List, [], Option, Some, None, refl, sym, ap, inl, inr, option_map, eqb-true, ne_eqb, behind_sign, behind_name}
+use Rattle.std.proofs.Common.{◌≡◌, ◌∷◌, ◌++◌, ◌==◌, ◌≢◌, eq-eqb, Bor, MatchOption}
 use Rattle.evt_text.proofs.Cases.{chosen}
 
 pub behind_sign-at : (sign : ℕ) (rest : List ℕ) → behind_sign sign (sign ∷ rest) ≡ Some rest

@@ -1,6 +1,6 @@
 -- Values inside values.
-use Rattle.evt_text.proofs.Common.{◌≡◌, ℕ, zero, suc, ◌-◌, ◌<◌, List, Option, None, refl, arith, ◌≤◌, length, EventShape, Shape, Event, Value, Form, EventForm, form_at}
-use Rattle.std.proofs.Common.{sub-one, rules}
+use Rattle.evt_text.proofs.Common.{ℕ, zero, suc, List, Option, None, refl, arith, length, EventShape, Shape, Event, Value, Form, EventForm, form_at}
+use Rattle.std.proofs.Common.{◌≡◌, ◌-◌, ◌<◌, ◌≤◌, sub-one, rules}
 use Rattle.epl_values.specs.declared.shape.Shape.{the_lemmas}
 use Rattle.std.proofs.lemmas.Option.{slice_get_past}
 use Rattle.event_types.specs.Types.{form_of}

@@ -1,5 +1,6 @@
 -- What is spelled as a value is read again.
-use Rattle.evt_text.proofs.Common.{◌≡◌, ℕ, ℤ, zero, suc, ◌<◌, ◌≤◌, List, [], ◌∷◌, ◌++◌, length, Bool, true, false, ◌||◌, ◌&&◌, ◌==◌, nat_le, Option, Some, refl, ◌∙◌, arith, append_assoc, inl, inr, AllByRecursion, slice_get, IsNumeral, or_cases, and_parts, leb-true, ne_eqb, eqb-true, digit_from_value, none-some, same_Some, Field, EventShape, Value, is_letter, is_digit, IsName, HasNames, Form, IntegerForm, BooleanForm, TextForm, SequenceForm, DictionaryForm, EventForm, ContextForm, ListenerForm, types_in, types_held, AreBlanks, is_blank, IsLead, SpellsInteger, SpellsFields, SpellsEvent, SpellsWithin, behind_blanks, fields_from, form_at}
+use Rattle.std.proofs.Common.{◌≡◌, ◌<◌, ◌≤◌, ◌∷◌, ◌++◌, ◌||◌, ◌&&◌, ◌==◌}
+use Rattle.evt_text.proofs.Common.{ℕ, ℤ, zero, suc, List, [], length, Bool, true, false, nat_le, Option, Some, refl, ◌∙◌, arith, append_assoc, inl, inr, AllByRecursion, slice_get, IsNumeral, or_cases, and_parts, leb-true, ne_eqb, eqb-true, digit_from_value, none-some, same_Some, Field, EventShape, Value, is_letter, is_digit, IsName, HasNames, Form, IntegerForm, BooleanForm, TextForm, SequenceForm, DictionaryForm, EventForm, ContextForm, ListenerForm, types_in, types_held, AreBlanks, is_blank, IsLead, SpellsInteger, SpellsFields, SpellsEvent, SpellsWithin, behind_blanks, fields_from, form_at}
 use Rattle.std.proofs.lemmas.Bool.{or_from}
 use Rattle.epl_values.specs.declared.value.Value.TheVariants as value
 use Rattle.event_types.specs.Types.{form_of}

@@ -1,5 +1,6 @@
 -- What is spelled as an integer or a string is read again.
-use Rattle.evt_text.proofs.Common.{◌≡◌, ℕ, ℤ, pos, neg_ℤ, ◌+◌, ◌-◌, ◌*◌, ◌<◌, ◌≤◌, List, [], ◌∷◌, ◌++◌, length, true, false, ◌==◌, Some, refl, sym, ◌∙◌, ap, arith, append_assoc, length-append, inl, inr, AllDigits, IsNumeral, digits_value, digits_value_after, digit_value, le-leb, and_from, ne_eqb, digit_from_value, is_digit, AreBlanks, is_plain, escaped, SpellsInteger, SpellsBytes, SpellsString, behind_blanks, digits_from, inside_from}
+use Rattle.std.proofs.Common.{◌≡◌, ◌+◌, ◌-◌, ◌*◌, ◌<◌, ◌≤◌, ◌∷◌, ◌++◌, ◌==◌}
+use Rattle.evt_text.proofs.Common.{ℕ, ℤ, pos, neg_ℤ, List, [], length, true, false, Some, refl, sym, ◌∙◌, ap, arith, append_assoc, length-append, inl, inr, AllDigits, IsNumeral, digits_value, digits_value_after, digit_value, le-leb, and_from, ne_eqb, digit_from_value, is_digit, AreBlanks, is_plain, escaped, SpellsInteger, SpellsBytes, SpellsString, behind_blanks, digits_from, inside_from}
 use Rattle.std.proofs.lemmas.Bool.{and_left}
 use Rattle.evt_text.specs.Reading.{number_at, integer_at, string_at}
 use Rattle.evt_text.proofs.Strings.{plain-tests}

@@ -1,5 +1,6 @@
 -- What is read is spelled so.
-use Rattle.evt_text.proofs.Common.{◌≡◌, ℕ, ℤ, pos, neg_ℤ, ◌+◌, ◌-◌, ◌*◌, ◌<◌, ◌≤◌, List, [], ◌∷◌, ◌++◌, length, Bool, true, false, cond, ◌&&◌, ◌==◌, nat_le, Some, refl, sym, ◌∙◌, ap, arith, append_assoc, inl, inr, AllDigits, IsNumeral, digits_value, digits_value_after, digit_value, eqb-true, leb-true, and_parts, none-some, same_Some, is_digit, AreBlanks, is_blank, is_plain, escaped, SpellsInteger, SpellsBytes, SpellsString, with_front, behind_sign, behind_blanks, digit_at, digits_from, inside_from}
+use Rattle.std.proofs.Common.{◌≡◌, ◌+◌, ◌-◌, ◌*◌, ◌<◌, ◌≤◌, ◌∷◌, ◌++◌, ◌&&◌, ◌==◌}
+use Rattle.evt_text.proofs.Common.{ℕ, ℤ, pos, neg_ℤ, List, [], length, Bool, true, false, cond, nat_le, Some, refl, sym, ◌∙◌, ap, arith, append_assoc, inl, inr, AllDigits, IsNumeral, digits_value, digits_value_after, digit_value, eqb-true, leb-true, and_parts, none-some, same_Some, is_digit, AreBlanks, is_blank, is_plain, escaped, SpellsInteger, SpellsBytes, SpellsString, with_front, behind_sign, behind_blanks, digit_at, digits_from, inside_from}
 use Rattle.std.proofs.lemmas.Str.{digit_value_digit}
 use Rattle.evt_text.specs.Reading.{◌>>=◌, number_at, integer_at, within_limit, string_at}
 use Rattle.evt_text.proofs.Cases.{chosen, bind-some, map-some, pair-some}

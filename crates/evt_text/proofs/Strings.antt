@@ -1,6 +1,6 @@
 -- The inside of a string, piece by piece.
-use Rattle.evt_text.proofs.Common.{◌≡◌, ℕ, ◌<◌, List, [], ◌∷◌, ◌++◌, length, take, drop, get_or, Bool, true, false, cond, ◌||◌, ◌==◌, Option, Some, None, refl, sym, ◌∙◌, ap, arith, inl, inr, length-append, IsCharBoundary, option_map, or_cases, take_at, is_plain, escaped, with_front, behind_sign, inside_from}
-use Rattle.std.proofs.Common.{eqb-true, append-nil}
+use Rattle.evt_text.proofs.Common.{ℕ, List, [], length, take, drop, get_or, Bool, true, false, cond, Option, Some, None, refl, sym, ◌∙◌, ap, arith, inl, inr, length-append, IsCharBoundary, option_map, or_cases, take_at, is_plain, escaped, with_front, behind_sign, inside_from}
+use Rattle.std.proofs.Common.{◌≡◌, ◌<◌, ◌∷◌, ◌++◌, ◌||◌, ◌==◌, eqb-true, append-nil}
 use Rattle.std.proofs.lemmas.Bool.{both_ways, not-true, not-false, or_parts}
 use Rattle.std.proofs.lemmas.List.{drop_at}
 use Rattle.evt_text.specs.Reading.{◌>>=◌, letter_at, escape_at, plain_front, behind_plain}

@@ -1,5 +1,6 @@
 -- Names of event types, and the types that can be read in event files.
-use Rattle.evt_text.specs.Common.{ℕ, ◌≤◌, List, [], ◌∷◌, length, Bool, IsTrue, nat_le, ◌==◌, ◌&&◌, ◌||◌, AllByRecursion, EventShape}
+use Rattle.std.specs.Prelude.{◌≤◌, ◌∷◌, ◌==◌, ◌&&◌, ◌||◌}
+use Rattle.evt_text.specs.Common.{ℕ, List, [], length, Bool, IsTrue, nat_le, AllByRecursion, EventShape}
 use Rattle.event_types.specs.Types.{HasDistinctNames, HasKnownFields, HasNoCycle}
 
 -- `A` to `Z`, `a` to `z` and `_`

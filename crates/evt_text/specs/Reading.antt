@@ -1,6 +1,6 @@
 -- Reading a value from left to right: the value and what follows it, or nothing.
-use Rattle.evt_text.specs.Common.{◌≡◌, ℕ, ℤ, pos, neg_ℤ, zero, suc, List, [], ◌∷◌, ◌++◌, length, Bool, true, false, ◌==◌, ◌&&◌, nat_le, if◌then◌else◌, Option, Some, None, Result, Ok, Err, Field, EventShape, Value, Form, IntegerForm, TextForm, EventForm}
-use Rattle.std.specs.Prelude.{◌+◌, ◌-◌, ◌*◌, slice_get}
+use Rattle.evt_text.specs.Common.{ℕ, ℤ, pos, neg_ℤ, zero, suc, List, [], length, Bool, true, false, nat_le, Option, Some, None, Result, Ok, Err, Field, EventShape, Value, Form, IntegerForm, TextForm, EventForm}
+use Rattle.std.specs.Prelude.{◌≡◌, ◌∷◌, ◌++◌, ◌==◌, ◌&&◌, if◌then◌else◌, ◌+◌, ◌-◌, ◌*◌, slice_get}
 use Rattle.std.specs.Option.{option_map}
 use Rattle.epl_values.specs.declared.value.Value.TheVariants as value
 use Rattle.evt_text.specs.Forms.{is_digit}

@@ -1,6 +1,6 @@
 -- How values are spelled in an event file.
-use Rattle.evt_text.specs.Common.{◌≡◌, ℕ, ℤ, pos, neg_ℤ, zero, suc, ◌≤◌, List, [], ◌∷◌, ◌++◌, length, Bool, true, false, IsTrue, ◌==◌, ◌||◌, if◌then◌else◌, Option, Some, None, Result, Ok, Err, AllByRecursion, Field, EventShape, Value, Form, IntegerForm, TextForm, EventForm}
-use Rattle.std.specs.Prelude.{◌<◌, ◌^◌, ◌⊎◌, not, slice_get, slice_range}
+use Rattle.evt_text.specs.Common.{ℕ, ℤ, pos, neg_ℤ, zero, suc, List, [], length, Bool, true, false, IsTrue, Option, Some, None, Result, Ok, Err, AllByRecursion, Field, EventShape, Value, Form, IntegerForm, TextForm, EventForm}
+use Rattle.std.specs.Prelude.{◌≡◌, ◌≤◌, ◌∷◌, ◌++◌, ◌==◌, ◌||◌, if◌then◌else◌, ◌<◌, ◌^◌, ◌⊎◌, not, slice_get, slice_range}
 use Rattle.std.specs.Str.Parse.{IsNumeral, digits_value}
 use Rattle.epl_values.specs.declared.shape.Shape.{Shape}
 use Rattle.epl_values.specs.declared.value.Value.TheVariants as value

@@ -1,5 +1,6 @@
 -- One form or another where both may begin alike: the first is the longer one.
-use Rattle.grammar_forms.proofs.Common.{◌≡◌, ℕ, ◌<◌, true, List, ◌++◌, Option, Some, None, refl, ap, ◌∙◌, ⊎_elim, inl, inr, arith, Either, Row, Reader, or_else, Covers, Good}
+use Rattle.std.proofs.Common.{◌≡◌, ◌<◌, ◌++◌}
+use Rattle.grammar_forms.proofs.Common.{ℕ, true, List, Option, Some, None, refl, ap, ◌∙◌, ⊎_elim, inl, inr, arith, Either, Row, Reader, or_else, Covers, Good}
 use Rattle.grammar_forms.specs.Rule.{has}
 use Rattle.grammar_forms.proofs.Sets.{has_left, has_right, has_neither}
 use Rattle.grammar_forms.proofs.Good.{or_else_some}

@@ -1,5 +1,7 @@
 -- Readers of nothing, of what is made of a tree, of one form after another, and of one form or another.
-use Rattle.grammar_forms.proofs.Common.{◌≡◌, ℕ, true, List, ◌++◌, Option, Some, None, refl, sym, ap, ◌∙◌, subst, ⊎_elim, inl, inr, arith, ◌⊎◌, same_Some, Then, Either, Row, apart, all_in, Reader, or_else, Good}
+use Rattle.std.proofs.Common.{◌≡◌, ◌++◌}
+use Rattle.std.specs.Prelude.{◌⊎◌}
+use Rattle.grammar_forms.proofs.Common.{ℕ, true, List, Option, Some, None, refl, sym, ap, ◌∙◌, subst, ⊎_elim, inl, inr, arith, same_Some, Then, Either, Row, apart, all_in, Reader, or_else, Good}
 use Rattle.grammar_forms.specs.Rule.{Nothing, Made, has}
 use Rattle.grammar_forms.specs.Reader.{none, made, with, and_then}
 use Rattle.grammar_forms.proofs.Sets.{apart_here, has_left, has_right, has_neither, has_in, lacks_in}

@@ -1,5 +1,6 @@
 -- A reader of one item.
-use Rattle.grammar_forms.proofs.Common.{◌≡◌, ℕ, ◌+◌, ◌<◌, true, List, [], Some, refl, sym, arith, Row, Reader, Good}
+use Rattle.std.proofs.Common.{◌≡◌, ◌+◌, ◌<◌}
+use Rattle.grammar_forms.proofs.Common.{ℕ, true, List, [], Some, refl, sym, arith, Row, Reader, Good}
 use Rattle.grammar_forms.specs.Rule.{has}
 
 -- a reader of one token

@@ -1,5 +1,6 @@
 -- One item of a class, and what is behind, between and separated by such items.
-use Rattle.grammar_forms.proofs.Common.{◌≡◌, ℕ, ◌+◌, true, cond, List, [], ◌∷◌, ◌++◌, Some, None, sym, ap, cond_some, Row, apart, LiesInside, Reader, Good}
+use Rattle.std.proofs.Common.{◌≡◌, ◌+◌, ◌∷◌, ◌++◌}
+use Rattle.grammar_forms.proofs.Common.{ℕ, true, cond, List, [], Some, None, sym, ap, cond_some, Row, apart, LiesInside, Reader, Good}
 use Rattle.grammar_forms.specs.Rule.{has, IsOf, Behind, Within, Separated}
 use Rattle.grammar_forms.specs.Reader.{item_of, behind, within, separated}
 use Rattle.grammar_forms.proofs.Good.{good_made, good_then}

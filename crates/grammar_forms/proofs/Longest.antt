@@ -1,5 +1,6 @@
 -- A good reader reads the longest trees, and only them.
-use Rattle.grammar_forms.proofs.Common.{ℕ, ◌≤◌, List, sym, ap, ◌∙◌, subst, same_Some, Row, Reader, Good}
+use Rattle.std.proofs.Common.{◌≤◌}
+use Rattle.grammar_forms.proofs.Common.{ℕ, List, sym, ap, ◌∙◌, subst, same_Some, Row, Reader, Good}
 use Rattle.grammar_forms.specs.Good.{ReadsLongest}
 
 pub reads_longest : {A : Type 0} {row : Row} {Is : A → ℕ → ℕ → Type 0} {read : Reader A} {s e : List ℕ} → Good row Is read s e → ReadsLongest Is read

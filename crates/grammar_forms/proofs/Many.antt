@@ -1,6 +1,6 @@
 -- One and then as many of another as there are.
-use Rattle.grammar_forms.proofs.Common.{◌≡◌, ℕ, zero, suc, ◌+◌, ◌-◌, ◌<◌, ◌≤◌, true, false, List, [], ◌∷◌, ◌++◌, Option, Some, None, refl, sym, ap, ◌∙◌, subst, ⊎_elim, arith, cases_eq, same_Some, Then, Row, apart, Reader, more, Covers, Good}
-use Rattle.std.proofs.Common.{append_assoc, append-nil}
+use Rattle.grammar_forms.proofs.Common.{ℕ, zero, suc, true, false, List, [], Option, Some, None, refl, sym, ap, ◌∙◌, subst, ⊎_elim, arith, cases_eq, same_Some, Then, Row, apart, Reader, more, Covers, Good}
+use Rattle.std.proofs.Common.{◌≡◌, ◌+◌, ◌-◌, ◌<◌, ◌≤◌, ◌∷◌, ◌++◌, append_assoc, append-nil}
 use Rattle.grammar_forms.specs.Rule.{Many, has}
 use Rattle.grammar_forms.specs.Reader.{many, and_many}
 use Rattle.grammar_forms.proofs.Sets.{apart_here, has_neither}

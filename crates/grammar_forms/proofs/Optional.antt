@@ -1,5 +1,6 @@
 -- One and then another, or none.
-use Rattle.grammar_forms.proofs.Common.{◌≡◌, ℕ, ◌<◌, ◌≤◌, true, false, List, ◌++◌, Option, Some, None, refl, sym, ap, ◌∙◌, subst, arith, same_Some, Then, Row, apart, Reader, Covers, Good}
+use Rattle.std.proofs.Common.{◌≡◌, ◌<◌, ◌≤◌, ◌++◌}
+use Rattle.grammar_forms.proofs.Common.{ℕ, true, false, List, Option, Some, None, refl, sym, ap, ◌∙◌, subst, arith, same_Some, Then, Row, apart, Reader, Covers, Good}
 use Rattle.grammar_forms.specs.Rule.{Optional, has}
 use Rattle.grammar_forms.specs.Reader.{or_none, and_optional}
 use Rattle.grammar_forms.proofs.Sets.{apart_here, has_neither}

@@ -1,6 +1,7 @@
 -- As many of some classes as there are, and at least one.
-use Rattle.grammar_forms.proofs.Common.{◌≡◌, ℕ, zero, suc, ◌+◌, ◌-◌, ◌<◌, ◌≤◌, Bool, true, false, cond, List, Some, None, refl, sym, ap, subst, ⊎_elim, inl, inr, arith, ◌⊎◌, cases_eq, same_Some, LiesInside, Row, Covers, Good}
-use Rattle.std.proofs.Common.{nat_lt}
+use Rattle.std.specs.Prelude.{◌⊎◌}
+use Rattle.grammar_forms.proofs.Common.{ℕ, zero, suc, Bool, true, false, cond, List, Some, None, refl, sym, ap, subst, ⊎_elim, inl, inr, arith, cases_eq, same_Some, LiesInside, Row, Covers, Good}
+use Rattle.std.proofs.Common.{◌≡◌, ◌+◌, ◌-◌, ◌<◌, ◌≤◌, nat_lt}
 use Rattle.std.proofs.lemmas.Bool.{cases_lt, ltb-true, lt-ltb}
 use Rattle.grammar_forms.specs.Rule.{IsRun, has}
 use Rattle.grammar_forms.specs.Reader.{run_end, run_at}

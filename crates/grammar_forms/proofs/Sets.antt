@@ -1,5 +1,6 @@
 -- Sets of classes: what two have in common.
-use Rattle.grammar_forms.proofs.Common.{◌≡◌, ℕ, Bool, true, false, List, [], ◌∷◌, ◌++◌, refl, sym, ap, ◌∙◌, subst, Row, apart, all_in}
+use Rattle.std.proofs.Common.{◌≡◌, ◌∷◌, ◌++◌}
+use Rattle.grammar_forms.proofs.Common.{ℕ, Bool, true, false, List, [], refl, sym, ap, ◌∙◌, subst, Row, apart, all_in}
 use Rattle.std.specs.Prelude.{◌||◌, ◌&&◌, not, ◌==◌}
 use Rattle.std.proofs.lemmas.Bool.{eqb-true}
 use Rattle.grammar_forms.specs.Rule.{contains, has}

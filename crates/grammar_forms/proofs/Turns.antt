@@ -1,5 +1,6 @@
 -- A recursion on a count of turns, beside a loop that counts up.
-use Rattle.grammar_forms.proofs.Common.{◌≡◌, ℕ, suc, ◌+◌, ◌-◌, ◌<◌, ◌≤◌, List, [], ◌∷◌, ◌++◌, Some, None, true, false, cond, ap, ◌∙◌, arith, Row, Reader, more}
+use Rattle.std.proofs.Common.{◌≡◌, ◌+◌, ◌-◌, ◌<◌, ◌≤◌, ◌∷◌, ◌++◌}
+use Rattle.grammar_forms.proofs.Common.{ℕ, suc, List, [], Some, None, true, false, cond, ap, ◌∙◌, arith, Row, Reader, more}
 use Rattle.grammar_forms.specs.Rule.{has}
 use Rattle.grammar_forms.specs.Reader.{many, run_end}
 

@@ -1,5 +1,6 @@
 -- One and then another exactly where a class comes next; what passes a test; what begins with a class.
-use Rattle.grammar_forms.proofs.Common.{◌≡◌, ℕ, ◌<◌, ◌≤◌, Bool, true, false, cond, List, [], Option, Some, None, refl, sym, ap, ◌∙◌, subst, arith, same_Some, cond_some, Then, Row, Reader, Covers, Good}
+use Rattle.std.proofs.Common.{◌≡◌, ◌<◌, ◌≤◌}
+use Rattle.grammar_forms.proofs.Common.{ℕ, Bool, true, false, cond, List, [], Option, Some, None, refl, sym, ap, ◌∙◌, subst, arith, same_Some, cond_some, Then, Row, Reader, Covers, Good}
 use Rattle.grammar_forms.specs.Rule.{Where, Such, Starting, has}
 use Rattle.grammar_forms.specs.Reader.{with_some, and_where, such, starting}
 use Rattle.grammar_forms.proofs.Sets.{lacks}

@@ -1,5 +1,6 @@
 -- What a reader of a form owes.
-use Rattle.grammar_forms.specs.Common.{◌≡◌, ℕ, ◌<◌, ◌≤◌, true, false, List, Some, None}
+use Rattle.std.specs.Prelude.{◌≡◌, ◌<◌, ◌≤◌}
+use Rattle.grammar_forms.specs.Common.{ℕ, true, false, List, Some, None}
 use Rattle.grammar_forms.specs.Rule.{Row, has}
 use Rattle.grammar_forms.specs.Reader.{Reader}
 

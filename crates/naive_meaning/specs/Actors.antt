@@ -1,6 +1,6 @@
 -- The contexts and the reader of a run, as actors.
-use Rattle.naive_meaning.specs.Common.{ℕ, List, [], ◌∷◌, ◌++◌, Program, Cargo, Context}
-use Rattle.std.specs.Prelude.{zero, suc, length}
+use Rattle.naive_meaning.specs.Common.{ℕ, List, [], Program, Cargo, Context}
+use Rattle.std.specs.Prelude.{◌∷◌, ◌++◌, zero, suc, length}
 use Rattle.actor_theory.specs.Language.{Sent}
 use Rattle.actor_theory.specs.Joined.{Slots, Reader}
 use Rattle.context_meaning.specs.declared.cargo.Cargo.TheVariants as cargo

@@ -1,5 +1,5 @@
 -- The names that most files here cite, passed on from one place. Declares nothing.
-pub use Rattle.std.specs.Prelude.{List, Option, [], ℕ, ◌++◌, ◌∷◌}
+pub use Rattle.std.specs.Prelude.{List, Option, [], ℕ}
 pub use Rattle.context_meaning.specs.declared.cargo.Cargo.{Cargo}
 pub use Rattle.context_meaning.specs.declared.cargo.Line.{Line}
 pub use Rattle.context_meaning.specs.declared.context.Context.{Context}

@@ -1,6 +1,6 @@
 -- The report of a record: what each context printed, slot after slot.
-use Rattle.naive_meaning.specs.Common.{ℕ, List, [], ◌∷◌, ◌++◌, Option, Line, Program}
-use Rattle.std.specs.Prelude.{◌+◌, Bool, ◌==◌, if◌then◌else◌, codes, Some, None, slice_get}
+use Rattle.naive_meaning.specs.Common.{ℕ, List, [], Option, Line, Program}
+use Rattle.std.specs.Prelude.{◌∷◌, ◌++◌, ◌+◌, Bool, ◌==◌, if◌then◌else◌, codes, Some, None, slice_get}
 use Rattle.std.specs.List.{flat_map}
 use Rattle.std.specs.Fmt.{decimal}
 use Rattle.action_host.specs.declared.host.Fault.{Fault}

@@ -1,5 +1,6 @@
 -- What the checker's definitions give for trees in which no fault is found is those trees with names resolved.
-use Rattle.name_resolution.proofs.Common.{◌≡◌, ℕ, true, false, List, [], ◌∷◌, ◌++◌, map, refl, sym, ap, subst, ◌∙◌, AllByRecursion, EventExpr, Expr, Site, Stmt, Scope, Table, Demand, typed_of, expr_found, term_found, State, bound_in, expr_names, event_names, row_read, Reads, Named, Around, ExprIs, Here, RowIs, Agrees, ActionsAgree, Fit, Matches, Ready, Fits, every, RowResolves}
+use Rattle.std.proofs.Common.{◌≡◌, ◌∷◌, ◌++◌}
+use Rattle.name_resolution.proofs.Common.{ℕ, true, false, List, [], map, refl, sym, ap, subst, ◌∙◌, AllByRecursion, EventExpr, Expr, Site, Stmt, Scope, Table, Demand, typed_of, expr_found, term_found, State, bound_in, expr_names, event_names, row_read, Reads, Named, Around, ExprIs, Here, RowIs, Agrees, ActionsAgree, Fit, Matches, Ready, Fits, every, RowResolves}
 use Rattle.epl_tree.specs.declared.statement.Stmt.{Stmt as Tree}
 use Rattle.expr_check.specs.Expressions.{part_of}
 use Rattle.stmt_check.specs.Bodies.{Around as Body}

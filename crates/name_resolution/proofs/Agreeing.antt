@@ -1,5 +1,6 @@
 -- Where the names that a text names stand for what the checker sees by them.
-use Rattle.name_resolution.proofs.Common.{◌≡◌, ℕ, ◌+◌, Bool, true, List, [], ◌∷◌, Option, Some, map, AllByRecursion, option_map, or_left, or_right, Variable, Scope, Seen, SeenKind, ActionHead, Table, action_named, seen, Names, either, any_of, Named, Meant}
+use Rattle.std.proofs.Common.{◌≡◌, ◌+◌, ◌∷◌}
+use Rattle.name_resolution.proofs.Common.{ℕ, Bool, true, List, [], Option, Some, map, AllByRecursion, option_map, or_left, or_right, Variable, Scope, Seen, SeenKind, ActionHead, Table, action_named, seen, Names, either, any_of, Named, Meant}
 use Rattle.typed_program.specs.declared.statement.Variable.TheVariants as variable
 use Rattle.type_table.specs.declared.scope.SeenKind.TheVariants as kind
 use Rattle.name_resolution.specs.Names.{meaning_of, place_of, held}

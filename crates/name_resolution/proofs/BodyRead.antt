@@ -1,5 +1,6 @@
 -- Expressions, places, locals and blocks of a body.
-use Rattle.name_resolution.proofs.Common.{◌≡◌, ℕ, ◌+◌, min, Bool, true, false, if◌then◌else◌, List, [], ◌∷◌, ◌++◌, map, length, take, Option, Some, None, refl, sym, ap, subst, ◌∙◌, AllByRecursion, option_map, bytes_eq, bytes_eq-Decides, Spot, Shape, Expr, Suffix, Name, Place, TypedEntry, TypedExpr, TypedExpr-F, roll-TypedExpr, out-TypedExpr, out-roll-TypedExpr, TypedLink, TypedNode, out-TypedNode, TypedSuffix, TypedSuffixNode, Site, Variable, Scope, Seen, SeenKind, ActionHead, ParamHead, Found, Arguments, Judged, Walk, Demand, arguments_found, seen, outer_code, variable, root_of, name_found, known, judged, shape_given, Step, demand_before, walk_start, sound, Target, place_found, typed_of, expr_found, State, known_shape, local_read, scoped, Names, any_of, expr_names, suffix_names, place_names, reads, args_read, maybe_read, After, Reads, Named, Meant, Around, typed_form, shape_of, variable_form, ExprIs, ExprsAre, StepsAre, Here, shape_or_integer, leaving, PlaceIs, MaybeIs}
+use Rattle.std.proofs.Common.{◌≡◌, ◌+◌, if◌then◌else◌, ◌∷◌, ◌++◌}
+use Rattle.name_resolution.proofs.Common.{ℕ, min, Bool, true, false, List, [], map, length, take, Option, Some, None, refl, sym, ap, subst, ◌∙◌, AllByRecursion, option_map, bytes_eq, bytes_eq-Decides, Spot, Shape, Expr, Suffix, Name, Place, TypedEntry, TypedExpr, TypedExpr-F, roll-TypedExpr, out-TypedExpr, out-roll-TypedExpr, TypedLink, TypedNode, out-TypedNode, TypedSuffix, TypedSuffixNode, Site, Variable, Scope, Seen, SeenKind, ActionHead, ParamHead, Found, Arguments, Judged, Walk, Demand, arguments_found, seen, outer_code, variable, root_of, name_found, known, judged, shape_given, Step, demand_before, walk_start, sound, Target, place_found, typed_of, expr_found, State, known_shape, local_read, scoped, Names, any_of, expr_names, suffix_names, place_names, reads, args_read, maybe_read, After, Reads, Named, Meant, Around, typed_form, shape_of, variable_form, ExprIs, ExprsAre, StepsAre, Here, shape_or_integer, leaving, PlaceIs, MaybeIs}
 use Rattle.epl_tree.specs.declared.expression.ExprNode.TheOpen as tree
 use Rattle.typed_program.specs.declared.statement.Variable.TheVariants as var
 use Rattle.type_table.specs.Scopes.{with_seen, cut_to}

@@ -1,5 +1,6 @@
 -- The names that an event expression binds stand behind those around it.
-use Rattle.name_resolution.proofs.Common.{◌≡◌, ℕ, Bool, true, false, if◌then◌else◌, List, [], ◌∷◌, ◌++◌, map, length, drop, Option, Some, None, is_some, refl, sym, ap, subst, ◌∙◌, append_assoc, AllByRecursion, EventExpr, EventExpr-F, map-EventExpr, roll-EventExpr, fold-roll-EventExpr, EventNode, EventNode-F, map-EventNode, roll-EventNode, fold-EventNode, fold-roll-EventNode, ind-EventExpr, TemplateClause, Scope, Seen, Table, inner_of}
+use Rattle.std.proofs.Common.{◌≡◌, if◌then◌else◌, ◌∷◌, ◌++◌}
+use Rattle.name_resolution.proofs.Common.{ℕ, Bool, true, false, List, [], map, length, drop, Option, Some, None, is_some, refl, sym, ap, subst, ◌∙◌, append_assoc, AllByRecursion, EventExpr, EventExpr-F, map-EventExpr, roll-EventExpr, fold-roll-EventExpr, EventNode, EventNode-F, map-EventNode, roll-EventNode, fold-EventNode, fold-roll-EventNode, ind-EventExpr, TemplateClause, Scope, Seen, Table, inner_of}
 use Rattle.std.proofs.Math.Seq.{drop-append_seam}
 use Rattle.epl_tree.specs.declared.event.EventNode.TheOpen as event
 use Rattle.epl_tree.specs.declared.event.TemplateClause.TheVariants as clause

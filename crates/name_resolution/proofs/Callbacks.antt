@@ -1,5 +1,6 @@
 -- A listener: its site stands at its number, with its event expression and its callback.
-use Rattle.name_resolution.proofs.Common.{◌≡◌, ℕ, zero, suc, ◌+◌, ◌<◌, ◌≤◌, ◌==◌, min, nat_le, nat_lt, count_by, Bool, true, false, cond, ◌&&◌, ◌||◌, not, if◌then◌else◌, List, [], ◌∷◌, ◌++◌, map, length, drop, insert, Option, Some, None, refl, sym, ap, subst, ◌∙◌, slice_get, arith, AllByRecursion, list_any, option_map, bytes_eq, or_left, or_right, or_parts, nat_tests, length-insert, bytes_eq-Decides, Shape, Variable, Scope, Seen, SeenKind, State, known_shape, captured_in, callback_start, local_of, Names, bound_of, Named, Meant, Here, shape_or_integer, BoundAre}
+use Rattle.std.proofs.Common.{◌≡◌, ◌+◌, ◌<◌, ◌≤◌, ◌==◌, ◌&&◌, ◌||◌, if◌then◌else◌, ◌∷◌, ◌++◌}
+use Rattle.name_resolution.proofs.Common.{ℕ, zero, suc, min, nat_le, nat_lt, count_by, Bool, true, false, cond, not, List, [], map, length, drop, insert, Option, Some, None, refl, sym, ap, subst, ◌∙◌, slice_get, arith, AllByRecursion, list_any, option_map, bytes_eq, or_left, or_right, or_parts, nat_tests, length-insert, bytes_eq-Decides, Shape, Variable, Scope, Seen, SeenKind, State, known_shape, captured_in, callback_start, local_of, Names, bound_of, Named, Meant, Here, shape_or_integer, BoundAre}
 use Rattle.std.specs.List.{filter}
 use Rattle.std.specs.Prelude.{fold}
 use Rattle.std.proofs.lemmas.Bool.{eq-eqb}

@@ -1,6 +1,7 @@
 -- What holds of a part of a body that is read: names, sites and locals are only added, and where it has no fault it is what its tree
 -- asks, between what is visible before it and behind it.
-use Rattle.name_resolution.proofs.Common.{◌≡◌, ℕ, suc, ◌+◌, ◌<◌, ◌≤◌, Bool, true, false, cond, if◌then◌else◌, List, [], ◌∷◌, ◌++◌, map, length, take, Option, Some, None, is_some, refl, sym, ap, subst, ◌∙◌, slice_get, nat_lt, not, position, arith, append_assoc, insert, position_or_len, option_map, bytes_eq, nat_tests, append-nil, length-insert, Spot, Shape, Site, Scope, Seen, Found, told, seen, item_at, State, Names, After, Reads, Named, Meant, Here}
+use Rattle.std.proofs.Common.{◌≡◌, ◌+◌, ◌<◌, ◌≤◌, if◌then◌else◌, ◌∷◌, ◌++◌}
+use Rattle.name_resolution.proofs.Common.{ℕ, suc, Bool, true, false, cond, List, [], map, length, take, Option, Some, None, is_some, refl, sym, ap, subst, ◌∙◌, slice_get, nat_lt, not, position, arith, append_assoc, insert, position_or_len, option_map, bytes_eq, nat_tests, append-nil, length-insert, Spot, Shape, Site, Scope, Seen, Found, told, seen, item_at, State, Names, After, Reads, Named, Meant, Here}
 use Rattle.std.proofs.lemmas.Bool.{lt-ltb}
 use Rattle.stmt_check.specs.Steps.{done, ◌>>=◌, pure, given, looks, reads_by, tells, changes}
 use Rattle.name_resolution.specs.Names.{meaning_of}

@@ -1,5 +1,5 @@
 -- The names that most files here cite, passed on from one place. Declares nothing.
-pub use Rattle.std.proofs.Common.{Bool, List, None, Option, Some, [], ap, append_assoc, arith, codes, cond, count_by, drop, false, if◌then◌else◌, insert, is_some, length, map, min, nat_le, nat_lt, neg_ℤ, not, pos, position, refl, slice_get, subst, suc, sym, take, true, zero, ℕ, ◌&&◌, ◌*◌, ◌++◌, ◌+◌, ◌-◌, ◌<◌, ◌==◌, ◌||◌, ◌∙◌, ◌∷◌, ◌≡◌, ◌≤◌}
+pub use Rattle.std.proofs.Common.{Bool, List, None, Option, Some, [], ap, append_assoc, arith, codes, cond, count_by, drop, false, insert, is_some, length, map, min, nat_le, nat_lt, neg_ℤ, not, pos, position, refl, slice_get, subst, suc, sym, take, true, zero, ℕ, ◌∙◌}
 pub use Rattle.std.proofs.lemmas.Bool.{leb-false, or_left, or_parts, or_right}
 pub use Rattle.std.proofs.lemmas.Bool.Decides.{nat_tests}
 pub use Rattle.std.proofs.lemmas.List.{append-nil, length-append}

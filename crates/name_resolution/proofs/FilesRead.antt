@@ -1,5 +1,6 @@
 -- Monitors and files in order: each monitor of the program is its declaration with names resolved.
-use Rattle.name_resolution.proofs.Common.{◌≡◌, ℕ, zero, suc, ◌+◌, ◌<◌, ◌≤◌, min, nat_le, Bool, true, false, not, List, [], ◌∷◌, ◌++◌, map, length, Option, Some, None, refl, sym, ap, subst, ◌∙◌, slice_get, position, arith, append_assoc, codes, option_map, bytes_eq, leb-false, length-append, EventShape, Declaration, EventDecl, Member, MonitorDecl, Action, Global, Program, Site, Fault, Gathered, ActionHead, GlobalHead, MonitorHead, Table, told, numbers, with_event, with_monitor, declaration_faults, faults_from, gathered_after, units_faults, units_gathered, none_gathered, in_file, event_shape, actions_from, kinds_of, has_name, event_of, item_at, Made, short, members_read, IsProgram, Around, declarations_in, globals_in, actions_in, names_of, GlobalsAre}
+use Rattle.std.proofs.Common.{◌≡◌, ◌+◌, ◌<◌, ◌≤◌, ◌∷◌, ◌++◌}
+use Rattle.name_resolution.proofs.Common.{ℕ, zero, suc, min, nat_le, Bool, true, false, not, List, [], map, length, Option, Some, None, refl, sym, ap, subst, ◌∙◌, slice_get, position, arith, append_assoc, codes, option_map, bytes_eq, leb-false, length-append, EventShape, Declaration, EventDecl, Member, MonitorDecl, Action, Global, Program, Site, Fault, Gathered, ActionHead, GlobalHead, MonitorHead, Table, told, numbers, with_event, with_monitor, declaration_faults, faults_from, gathered_after, units_faults, units_gathered, none_gathered, in_file, event_shape, actions_from, kinds_of, has_name, event_of, item_at, Made, short, members_read, IsProgram, Around, declarations_in, globals_in, actions_in, names_of, GlobalsAre}
 use Rattle.epl_tree.specs.declared.unit.Declaration.TheVariants as declaration
 use Rattle.epl_tree.specs.declared.unit.Member.TheVariants as member
 use Rattle.epl_tree.specs.declared.unit.Unit.{Unit as File}

@@ -1,5 +1,6 @@
 -- What the table tells of a monitor is what its declaration is, and where the body of one of its actions begins.
-use Rattle.name_resolution.proofs.Common.{◌≡◌, ℕ, zero, suc, ◌+◌, ◌<◌, ◌≤◌, min, Bool, true, false, cond, if◌then◌else◌, not, is_some, List, [], ◌∷◌, ◌++◌, map, length, Option, Some, None, refl, sym, ap, subst, ◌∙◌, slice_get, nat_lt, position, arith, position_or_len, option_map, bytes_eq, bytes_eq-Decides, Shape, TypeExpr, ActionDecl, GlobalDecl, Member, Param, Global, Scope, Seen, ActionHead, GlobalHead, MonitorHead, ParamHead, global_head, param_head, actions_from, globals_after, params_from, item_at, Named, Meant, meant_by, actions_in, names_of, global_names, param_names}
+use Rattle.std.proofs.Common.{◌≡◌, ◌+◌, ◌<◌, ◌≤◌, if◌then◌else◌, ◌∷◌, ◌++◌}
+use Rattle.name_resolution.proofs.Common.{ℕ, zero, suc, min, Bool, true, false, cond, not, is_some, List, [], map, length, Option, Some, None, refl, sym, ap, subst, ◌∙◌, slice_get, nat_lt, position, arith, position_or_len, option_map, bytes_eq, bytes_eq-Decides, Shape, TypeExpr, ActionDecl, GlobalDecl, Member, Param, Global, Scope, Seen, ActionHead, GlobalHead, MonitorHead, ParamHead, global_head, param_head, actions_from, globals_after, params_from, item_at, Named, Meant, meant_by, actions_in, names_of, global_names, param_names}
 use Rattle.epl_tree.specs.declared.unit.Member.TheVariants as member
 use Rattle.typed_program.specs.declared.statement.Variable.TheVariants as var
 use Rattle.type_table.specs.Heads.{action_head}

@@ -1,5 +1,6 @@
 -- What an expression at its place is: the expression with its names resolved, or right behind a minus the literal with its sign.
-use Rattle.name_resolution.proofs.Common.{◌≡◌, ℕ, ◌+◌, ◌-◌, ◌*◌, pos, neg_ℤ, Bool, true, false, if◌then◌else◌, List, [], ◌∷◌, ◌++◌, Option, Some, None, refl, subst, sym, ap, ◌∙◌, Spot, Shape, Expr, TypedExpr, TypedExpr-F, roll-TypedExpr, out-TypedExpr, out-roll-TypedExpr, TypedNode, out-TypedNode, TypedSuffix, TypedSuffixNode, TypedLink, TypedEntry, Found, Gives, Root, Judged, Demand, Part, judged, shape_given, sound, codes_of, Named, Around, Form, TypedForm, typed_form, shape_of, ExprIs, FormIs, NodeIs}
+use Rattle.std.proofs.Common.{◌≡◌, ◌+◌, ◌-◌, ◌*◌, if◌then◌else◌, ◌∷◌, ◌++◌}
+use Rattle.name_resolution.proofs.Common.{ℕ, pos, neg_ℤ, Bool, true, false, List, [], Option, Some, None, refl, subst, sym, ap, ◌∙◌, Spot, Shape, Expr, TypedExpr, TypedExpr-F, roll-TypedExpr, out-TypedExpr, out-roll-TypedExpr, TypedNode, out-TypedNode, TypedSuffix, TypedSuffixNode, TypedLink, TypedEntry, Found, Gives, Root, Judged, Demand, Part, judged, shape_given, sound, codes_of, Named, Around, Form, TypedForm, typed_form, shape_of, ExprIs, FormIs, NodeIs}
 use Rattle.epl_tree.specs.declared.expression.ExprNode.TheOpen as tree
 use Rattle.typed_program.specs.declared.expression.TypedNode.TheOpen as typed
 use Rattle.expr_rules.specs.declared.operators.Sort.{Sort}

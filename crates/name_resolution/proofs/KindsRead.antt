@@ -1,5 +1,6 @@
 -- Event types: where no fault is found each is declared once, and its fields have their types.
-use Rattle.name_resolution.proofs.Common.{◌≡◌, ℕ, ◌+◌, nat_le, nat_lt, Bool, true, false, cond, ◌||◌, if◌then◌else◌, is_some, List, [], ◌∷◌, ◌++◌, map, length, Option, Some, None, refl, sym, ap, subst, ◌∙◌, append_assoc, bytes_eq, EventShape, Declaration, EventDecl, MonitorDecl, Program, Gathered, Table, told, numbers, with_event, with_monitor, declaration_faults, faults_from, gathered_after, units_faults, units_gathered, none_gathered, in_file, event_shape, kinds_of, has_name, event_of, type_by, type_found, IsProgram, TypeIs, declarations_in}
+use Rattle.std.proofs.Common.{◌≡◌, ◌+◌, ◌||◌, if◌then◌else◌, ◌∷◌, ◌++◌}
+use Rattle.name_resolution.proofs.Common.{ℕ, nat_le, nat_lt, Bool, true, false, cond, is_some, List, [], map, length, Option, Some, None, refl, sym, ap, subst, ◌∙◌, append_assoc, bytes_eq, EventShape, Declaration, EventDecl, MonitorDecl, Program, Gathered, Table, told, numbers, with_event, with_monitor, declaration_faults, faults_from, gathered_after, units_faults, units_gathered, none_gathered, in_file, event_shape, kinds_of, has_name, event_of, type_by, type_found, IsProgram, TypeIs, declarations_in}
 use Rattle.epl_tree.specs.declared.unit.Declaration.TheVariants as declaration
 use Rattle.epl_tree.specs.declared.unit.FieldDecl.{FieldDecl}
 use Rattle.epl_tree.specs.declared.unit.Unit.{Unit as File}

@@ -1,5 +1,6 @@
 -- The members of a monitor in order: its globals and its actions are their declarations with names resolved.
-use Rattle.name_resolution.proofs.Common.{◌≡◌, ℕ, zero, suc, ◌+◌, ◌<◌, ◌≤◌, min, nat_le, count_by, Bool, true, false, cond, ◌||◌, ◌&&◌, not, ◌==◌, if◌then◌else◌, is_some, List, [], ◌∷◌, ◌++◌, map, length, Option, Some, None, refl, sym, ap, subst, ◌∙◌, slice_get, position, arith, append_assoc, codes, AllByRecursion, option_map, bytes_eq, or_parts, leb-false, length-append, append-nil, EventShape, Shape, Expr, TypeExpr, ActionDecl, GlobalDecl, Member, Param, TypedExpr, Action, Global, Program, Site, Stmt, Fault, Scope, Seen, ActionHead, GlobalHead, MonitorHead, ParamHead, Table, Found, told, global_head, param_head, actions_from, globals_after, params_from, event_of, type_by, type_found, action_named, seen, item_at, expr_found, Made, State, short, when, members_read, exactly, row_read, After, Reads, Named, Around, TypeIs, ExprIs, Agrees, ActionsAgree, meant_by, Here, MaybeIs, RowIs, Fit, Matches, Ready, Fits, every, RowResolves, globals_in, actions_in, names_of, global_names, param_names, GlobalsAre}
+use Rattle.std.proofs.Common.{◌≡◌, ◌+◌, ◌<◌, ◌≤◌, ◌||◌, ◌&&◌, ◌==◌, if◌then◌else◌, ◌∷◌, ◌++◌}
+use Rattle.name_resolution.proofs.Common.{ℕ, zero, suc, min, nat_le, count_by, Bool, true, false, cond, not, is_some, List, [], map, length, Option, Some, None, refl, sym, ap, subst, ◌∙◌, slice_get, position, arith, append_assoc, codes, AllByRecursion, option_map, bytes_eq, or_parts, leb-false, length-append, append-nil, EventShape, Shape, Expr, TypeExpr, ActionDecl, GlobalDecl, Member, Param, TypedExpr, Action, Global, Program, Site, Stmt, Fault, Scope, Seen, ActionHead, GlobalHead, MonitorHead, ParamHead, Table, Found, told, global_head, param_head, actions_from, globals_after, params_from, event_of, type_by, type_found, action_named, seen, item_at, expr_found, Made, State, short, when, members_read, exactly, row_read, After, Reads, Named, Around, TypeIs, ExprIs, Agrees, ActionsAgree, meant_by, Here, MaybeIs, RowIs, Fit, Matches, Ready, Fits, every, RowResolves, globals_in, actions_in, names_of, global_names, param_names, GlobalsAre}
 use Rattle.std.proofs.lemmas.List.Sums.{sum_by-append}
 use Rattle.epl_tree.specs.declared.unit.Member.TheVariants as member
 use Rattle.type_table.specs.Heads.{action_head}

@@ -1,5 +1,6 @@
 -- A method that a type has is the one of its name.
-use Rattle.name_resolution.proofs.Common.{◌≡◌, ℕ, Bool, true, false, List, [], ◌∷◌, Option, Some, None, refl, subst, sym, ap, ◌∙◌, if◌then◌else◌, codes, AllByRecursion, written, bytes_eq, bytes_eq-Decides, Shape, Shape-F, out-Shape, Method, MethodCall}
+use Rattle.std.proofs.Common.{◌≡◌, ◌∷◌, if◌then◌else◌}
+use Rattle.name_resolution.proofs.Common.{ℕ, Bool, true, false, List, [], Option, Some, None, refl, subst, sym, ap, ◌∙◌, codes, AllByRecursion, written, bytes_eq, bytes_eq-Decides, Shape, Shape-F, out-Shape, Method, MethodCall}
 use Rattle.epl_values.specs.declared.shape.Shape.TheVariants as shape
 use Rattle.epl_values.specs.declared.shape.Shape.TheOpen as layer
 use Rattle.typed_program.specs.declared.expression.Method.TheVariants as method

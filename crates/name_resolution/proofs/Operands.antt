@@ -1,5 +1,6 @@
 -- Operators, chains of them and literals.
-use Rattle.name_resolution.proofs.Common.{◌≡◌, ℕ, ◌+◌, ◌-◌, ◌*◌, pos, neg_ℤ, nat_le, Bool, true, false, if◌then◌else◌, List, [], ◌∷◌, ◌++◌, map, Option, Some, None, refl, subst, sym, ap, ◌∙◌, AllByRecursion, Spot, Shape, Comparison, Expr, Link, out-Link, TypeExpr, TypedExpr, TypedExpr-F, roll-TypedExpr, out-TypedExpr, out-roll-TypedExpr, TypedLink, out-TypedLink, TypedNode, out-TypedNode, TypedSuffix, TypedSuffixNode, TypedEntry, Table, Found, type_found, Judged, Demand, Part, Linked, judged, sound, codes_of, Named, Around, TypeIs, Form, TypedForm, typed_form, shape_of, number_behind, ExprIs, FormIs, NodeIs, ExprsAre}
+use Rattle.std.proofs.Common.{◌≡◌, ◌+◌, ◌-◌, ◌*◌, if◌then◌else◌, ◌∷◌, ◌++◌}
+use Rattle.name_resolution.proofs.Common.{ℕ, pos, neg_ℤ, nat_le, Bool, true, false, List, [], map, Option, Some, None, refl, subst, sym, ap, ◌∙◌, AllByRecursion, Spot, Shape, Comparison, Expr, Link, out-Link, TypeExpr, TypedExpr, TypedExpr-F, roll-TypedExpr, out-TypedExpr, out-roll-TypedExpr, TypedLink, out-TypedLink, TypedNode, out-TypedNode, TypedSuffix, TypedSuffixNode, TypedEntry, Table, Found, type_found, Judged, Demand, Part, Linked, judged, sound, codes_of, Named, Around, TypeIs, Form, TypedForm, typed_form, shape_of, number_behind, ExprIs, FormIs, NodeIs, ExprsAre}
 use Rattle.epl_values.specs.declared.shape.Shape.TheVariants as shape
 use Rattle.epl_tree.specs.declared.expression.ExprNode.TheOpen as tree
 use Rattle.typed_program.specs.declared.expression.TypedLink.{TypedLink-F, roll-TypedLink, out-roll-TypedLink}

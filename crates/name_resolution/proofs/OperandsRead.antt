@@ -1,5 +1,6 @@
 -- What is evaluated at an `on`, durations and operands.
-use Rattle.name_resolution.proofs.Common.{◌≡◌, ℕ, zero, suc, ◌+◌, ◌-◌, ◌*◌, ◌==◌, ◌<◌, ◌≤◌, pos, min, nat_le, Bool, true, false, ◌&&◌, not, if◌then◌else◌, List, [], ◌∷◌, ◌++◌, length, take, drop, slice_get, Option, Some, None, refl, subst, sym, ap, ◌∙◌, arith, append_assoc, nat_tests, length-append, append-nil, list_any, Spot, Shape, Duration, Expr, out-Expr, Link, out-Link, TypedEntry, TypedExpr, TypedExpr-F, roll-TypedExpr, out-TypedExpr, out-roll-TypedExpr, TypedLink, out-TypedLink, TypedNode, out-TypedNode, TypedSuffix, TypedSuffixNode, Operand, Scope, Table, Found, told, Judged, typed_of, expr_found, Sofar, Went, went, Names, expr_names, duration_names, Named, Around, Form, number_behind, typed_form, ExprIs, Inside, DurationIs, OperandIs}
+use Rattle.std.proofs.Common.{◌≡◌, ◌+◌, ◌-◌, ◌*◌, ◌==◌, ◌<◌, ◌≤◌, ◌&&◌, if◌then◌else◌, ◌∷◌, ◌++◌}
+use Rattle.name_resolution.proofs.Common.{ℕ, zero, suc, pos, min, nat_le, Bool, true, false, not, List, [], length, take, drop, slice_get, Option, Some, None, refl, subst, sym, ap, ◌∙◌, arith, append_assoc, nat_tests, length-append, append-nil, list_any, Spot, Shape, Duration, Expr, out-Expr, Link, out-Link, TypedEntry, TypedExpr, TypedExpr-F, roll-TypedExpr, out-TypedExpr, out-roll-TypedExpr, TypedLink, out-TypedLink, TypedNode, out-TypedNode, TypedSuffix, TypedSuffixNode, Operand, Scope, Table, Found, told, Judged, typed_of, expr_found, Sofar, Went, went, Names, expr_names, duration_names, Named, Around, Form, number_behind, typed_form, ExprIs, Inside, DurationIs, OperandIs}
 use Rattle.std.specs.List.{list_all, position}
 use Rattle.epl_values.specs.declared.shape.Shape.TheVariants as shape
 use Rattle.epl_tree.specs.declared.event.DurationNode.{DurationNode}

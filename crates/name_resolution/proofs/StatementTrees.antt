@@ -1,5 +1,6 @@
 -- Listeners, and every statement.
-use Rattle.name_resolution.proofs.Common.{◌≡◌, ℕ, ◌+◌, ◌≤◌, ◌<◌, suc, min, nat_le, Bool, true, false, ◌||◌, not, List, [], ◌∷◌, ◌++◌, map, length, drop, insert, slice_get, Option, Some, None, refl, sym, ap, subst, ◌∙◌, arith, or_left, or_right, or_parts, nat_tests, append-nil, length-insert, slice_get_within, Spot, EventExpr, Listening, StmtNode, Site, TypedTerm, Stmt, Seen, Found, Event, Statement, Exactly, inner_of, bound_of, term_found, State, when, short, captured_in, bound_in, callback_start, local_of, Names, either, any_of, if_any, none, expr_names, optional_names, exprs_name, place_names, event_names, asked, exactly, NodePart, OnPart, After, Reads, Named, Around, TermIs, Here, StmtForm, StmtIs, ListenIs, BoundAre}
+use Rattle.std.proofs.Common.{◌≡◌, ◌+◌, ◌≤◌, ◌<◌, ◌||◌, ◌∷◌, ◌++◌}
+use Rattle.name_resolution.proofs.Common.{ℕ, suc, min, nat_le, Bool, true, false, not, List, [], map, length, drop, insert, slice_get, Option, Some, None, refl, sym, ap, subst, ◌∙◌, arith, or_left, or_right, or_parts, nat_tests, append-nil, length-insert, slice_get_within, Spot, EventExpr, Listening, StmtNode, Site, TypedTerm, Stmt, Seen, Found, Event, Statement, Exactly, inner_of, bound_of, term_found, State, when, short, captured_in, bound_in, callback_start, local_of, Names, either, any_of, if_any, none, expr_names, optional_names, exprs_name, place_names, event_names, asked, exactly, NodePart, OnPart, After, Reads, Named, Around, TermIs, Here, StmtForm, StmtIs, ListenIs, BoundAre}
 use Rattle.epl_tree.specs.declared.statement.Stmt.{Stmt as Tree}
 use Rattle.epl_tree.specs.declared.statement.StmtNode.TheOpen.{StmtNode-F, Listening-F, Stmt-F}
 use Rattle.epl_tree.specs.declared.statement.StmtNode.TheOpen as tree

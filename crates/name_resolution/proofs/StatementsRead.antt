@@ -1,5 +1,6 @@
 -- Statements in which no fault is found are their trees with names resolved.
-use Rattle.name_resolution.proofs.Common.{◌≡◌, ℕ, ◌+◌, ◌≤◌, ◌<◌, ◌==◌, suc, min, nat_le, Bool, true, false, ◌||◌, ◌&&◌, not, if◌then◌else◌, List, [], ◌∷◌, ◌++◌, map, length, drop, insert, slice_get, Option, Some, None, refl, sym, ap, subst, ◌∙◌, arith, codes, AllByRecursion, option_map, bytes_eq, or_left, or_right, or_parts, nat_tests, append-nil, length-insert, slice_get_within, bytes_eq-Decides, Spot, Shape, Shape-F, out-Shape, EventExpr, Expr, Name, Listening, Place, StmtNode, TypeExpr, TypedExpr, Site, TypedTerm, Stmt, ActionHead, Found, type_found, Demand, Event, Statement, Exactly, Target, place_found, State, local_read, scoped, when, Names, either, any_of, if_any, none, expr_names, optional_names, exprs_name, place_names, asked, exactly, reads, args_read, maybe_read, NodePart, OnPart, row_read, After, Reads, Around, TypeIs, ExprIs, ExprsAre, Here, leaving, PlaceIs, MaybeIs, StmtForm, StmtIs, RowIs, ListenIs}
+use Rattle.std.proofs.Common.{◌≡◌, ◌+◌, ◌≤◌, ◌<◌, ◌==◌, ◌||◌, ◌&&◌, if◌then◌else◌, ◌∷◌, ◌++◌}
+use Rattle.name_resolution.proofs.Common.{ℕ, suc, min, nat_le, Bool, true, false, not, List, [], map, length, drop, insert, slice_get, Option, Some, None, refl, sym, ap, subst, ◌∙◌, arith, codes, AllByRecursion, option_map, bytes_eq, or_left, or_right, or_parts, nat_tests, append-nil, length-insert, slice_get_within, bytes_eq-Decides, Spot, Shape, Shape-F, out-Shape, EventExpr, Expr, Name, Listening, Place, StmtNode, TypeExpr, TypedExpr, Site, TypedTerm, Stmt, ActionHead, Found, type_found, Demand, Event, Statement, Exactly, Target, place_found, State, local_read, scoped, when, Names, either, any_of, if_any, none, expr_names, optional_names, exprs_name, place_names, asked, exactly, reads, args_read, maybe_read, NodePart, OnPart, row_read, After, Reads, Around, TypeIs, ExprIs, ExprsAre, Here, leaving, PlaceIs, MaybeIs, StmtForm, StmtIs, RowIs, ListenIs}
 use Rattle.std.proofs.lemmas.Bool.{not-false}
 use Rattle.epl_values.specs.declared.shape.Shape.TheOpen as shape
 use Rattle.epl_tree.specs.declared.statement.Level.{Level}

@@ -1,5 +1,6 @@
 -- Fields, elements and methods behind a value.
-use Rattle.name_resolution.proofs.Common.{◌≡◌, ℕ, zero, suc, min, Bool, true, false, List, [], ◌∷◌, ◌++◌, map, length, slice_get, Option, Some, None, refl, subst, sym, ap, ◌∙◌, AllByRecursion, bytes_eq, Spot, EventShape, Field, Shape, Shape-F, out-Shape, Expr, Suffix, Method, TypedEntry, TypedExpr, roll-TypedExpr, TypedLink, TypedNode, TypedSuffix, TypedSuffixNode, Table, Found, Arguments, MethodCall, Judged, Root, Walk, Demand, arguments_found, fields_at, Part, shape_given, Step, demand_before, walk_start, Named, Around, written, Form, TypedForm, shape_of, ExprIs, ExprsAre, StepsAre}
+use Rattle.std.proofs.Common.{◌≡◌, ◌∷◌, ◌++◌}
+use Rattle.name_resolution.proofs.Common.{ℕ, zero, suc, min, Bool, true, false, List, [], map, length, slice_get, Option, Some, None, refl, subst, sym, ap, ◌∙◌, AllByRecursion, bytes_eq, Spot, EventShape, Field, Shape, Shape-F, out-Shape, Expr, Suffix, Method, TypedEntry, TypedExpr, roll-TypedExpr, TypedLink, TypedNode, TypedSuffix, TypedSuffixNode, Table, Found, Arguments, MethodCall, Judged, Root, Walk, Demand, arguments_found, fields_at, Part, shape_given, Step, demand_before, walk_start, Named, Around, written, Form, TypedForm, shape_of, ExprIs, ExprsAre, StepsAre}
 use Rattle.std.specs.List.{position}
 use Rattle.epl_values.specs.declared.shape.Shape.TheOpen as layer
 use Rattle.epl_tree.specs.declared.expression.ExprNode.TheOpen as tree

@@ -1,5 +1,6 @@
 -- What holds of a part in which no fault is found.
-use Rattle.name_resolution.proofs.Common.{◌≡◌, ℕ, Bool, true, false, if◌then◌else◌, List, [], ◌∷◌, ◌++◌, Option, Some, None, refl, AllByRecursion, Spot, Found, told, sound, codes_of}
+use Rattle.std.proofs.Common.{◌≡◌, if◌then◌else◌, ◌∷◌, ◌++◌}
+use Rattle.name_resolution.proofs.Common.{ℕ, Bool, true, false, List, [], Option, Some, None, refl, AllByRecursion, Spot, Found, told, sound, codes_of}
 use Rattle.expr_rules.specs.Then.{and_then, through, node}
 
 -- ---- no fault

@@ -1,5 +1,6 @@
 -- Event expressions in which no fault is found are their terms.
-use Rattle.name_resolution.proofs.Common.{◌≡◌, ℕ, ◌+◌, min, Bool, true, false, not, ◌||◌, if◌then◌else◌, List, [], ◌∷◌, ◌++◌, map, length, drop, slice_get, Option, Some, None, refl, subst, sym, ap, ◌∙◌, AllByRecursion, Spot, EventShape, Field, Shape, Duration, EventExpr, EventExpr-F, map-EventExpr, roll-EventExpr, fold-roll-EventExpr, EventNode, EventNode-F, map-EventNode, roll-EventNode, fold-EventNode, fold-roll-EventNode, ind-EventExpr, TemplateClause, Comparison, Expr, Name, Operand, Scope, Table, told, event_of, Sofar, Went, went, Names, either, any_of, event_names, duration_names, expr_names, Named, Around, type_named, Inside, DurationIs, OperandIs, TermIs}
+use Rattle.std.proofs.Common.{◌≡◌, ◌+◌, ◌||◌, if◌then◌else◌, ◌∷◌, ◌++◌}
+use Rattle.name_resolution.proofs.Common.{ℕ, min, Bool, true, false, not, List, [], map, length, drop, slice_get, Option, Some, None, refl, subst, sym, ap, ◌∙◌, AllByRecursion, Spot, EventShape, Field, Shape, Duration, EventExpr, EventExpr-F, map-EventExpr, roll-EventExpr, fold-roll-EventExpr, EventNode, EventNode-F, map-EventNode, roll-EventNode, fold-EventNode, fold-roll-EventNode, ind-EventExpr, TemplateClause, Comparison, Expr, Name, Operand, Scope, Table, told, event_of, Sofar, Went, went, Names, either, any_of, event_names, duration_names, expr_names, Named, Around, type_named, Inside, DurationIs, OperandIs, TermIs}
 use Rattle.std.proofs.lemmas.List.{length_push}
 use Rattle.epl_tree.specs.declared.event.Constraint.{Constraint}
 use Rattle.epl_tree.specs.declared.event.ConstraintNode.{ConstraintNode}

@@ -1,5 +1,6 @@
 -- What holds of a part of an event expression, and of what stands behind it, where no fault is found in it.
-use Rattle.name_resolution.proofs.Common.{◌≡◌, List, [], ◌∷◌, Fault, Found, Sofar, Went, went}
+use Rattle.std.proofs.Common.{◌≡◌, ◌∷◌}
+use Rattle.name_resolution.proofs.Common.{List, [], Fault, Found, Sofar, Went, went}
 use Rattle.listener_check.specs.Went.{behind, given, through, ◌>>=◌}
 use Rattle.name_resolution.proofs.Sure.{Sure, no_both}
 

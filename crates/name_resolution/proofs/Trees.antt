@@ -1,5 +1,6 @@
 -- Every expression in which no fault is found is its tree with names resolved, where the names that it names are known.
-use Rattle.name_resolution.proofs.Common.{◌≡◌, ℕ, Bool, true, List, [], ◌∷◌, map, sym, subst, refl, AllByRecursion, bytes_eq, bytes_eq-Decides, Spot, EventShape, Expr, out-Expr, Link, out-Link, Entry, out-Entry, Suffix, TypeExpr, Scope, Table, type_found, Demand, Pair, seen, Part, Linked, Step, Names, none, either, any_of, expr_names, suffix_names, Named, Around, TypeIs, Form}
+use Rattle.std.proofs.Common.{◌≡◌, ◌∷◌}
+use Rattle.name_resolution.proofs.Common.{ℕ, Bool, true, List, [], map, sym, subst, refl, AllByRecursion, bytes_eq, bytes_eq-Decides, Spot, EventShape, Expr, out-Expr, Link, out-Link, Entry, out-Entry, Suffix, TypeExpr, Scope, Table, type_found, Demand, Pair, seen, Part, Linked, Step, Names, none, either, any_of, expr_names, suffix_names, Named, Around, TypeIs, Form}
 use Rattle.epl_tree.specs.declared.expression.Expr.{Expr-F, map-Expr, roll-Expr, out-roll-Expr, fold-roll-Expr}
 use Rattle.epl_tree.specs.declared.expression.ExprNode.{ExprNode, ExprNode-F, map-ExprNode, roll-ExprNode, out-ExprNode, out-roll-ExprNode, fold-ExprNode, fold-roll-ExprNode}
 use Rattle.epl_tree.specs.declared.expression.ExprNode.TheOpen as node

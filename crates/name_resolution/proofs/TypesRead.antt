@@ -1,5 +1,6 @@
 -- A written type in which no fault is found is its shape.
-use Rattle.name_resolution.proofs.Common.{◌≡◌, ℕ, List, ◌++◌, min, Option, Some, None, refl, sym, subst, ap, ◌∙◌, Spot, Shape, Shape-F, out-Shape, TypeExpr, Table, Found, told, event_of, type_found, TypeIs}
+use Rattle.std.proofs.Common.{◌≡◌, ◌++◌}
+use Rattle.name_resolution.proofs.Common.{ℕ, List, min, Option, Some, None, refl, sym, subst, ap, ◌∙◌, Spot, Shape, Shape-F, out-Shape, TypeExpr, Table, Found, told, event_of, type_found, TypeIs}
 use Rattle.epl_values.specs.declared.shape.Shape.TheVariants as shape
 use Rattle.epl_values.specs.declared.shape.Shape.TheOpen as layer
 use Rattle.epl_tree.specs.declared.types.TypeExpr.{TypeExpr-F, map-TypeExpr, roll-TypeExpr, out-TypeExpr, out-roll-TypeExpr, fold-roll-TypeExpr, ind-TypeExpr}

@@ -1,5 +1,6 @@
 -- Arguments, calls, and literals of sequences and dictionaries; variables.
-use Rattle.name_resolution.proofs.Common.{◌≡◌, ℕ, ◌+◌, min, Bool, true, false, if◌then◌else◌, List, [], ◌∷◌, ◌++◌, map, slice_get, Option, Some, None, refl, subst, sym, ap, ◌∙◌, AllByRecursion, option_map, Spot, Shape, Entry, out-Entry, Expr, TypedEntry, TypedExpr, TypedExpr-F, roll-TypedExpr, out-roll-TypedExpr, TypedNode, out-TypedNode, TypedLink, TypedSuffix, TypedSuffixNode, Variable, Scope, Seen, SeenKind, ActionHead, Table, Found, event_of, Arguments, Gives, Judged, Demand, arguments_found, action_named, fields_at, Pair, seen, outer_code, variable, root_of, name_found, Part, known, judged, shape_given, sound, EventShape, Named, Meant, Around, type_named, Form, TypedForm, variable_form, ExprIs, FormIs, NodeIs, ExprsAre}
+use Rattle.std.proofs.Common.{◌≡◌, ◌+◌, if◌then◌else◌, ◌∷◌, ◌++◌}
+use Rattle.name_resolution.proofs.Common.{ℕ, min, Bool, true, false, List, [], map, slice_get, Option, Some, None, refl, subst, sym, ap, ◌∙◌, AllByRecursion, option_map, Spot, Shape, Entry, out-Entry, Expr, TypedEntry, TypedExpr, TypedExpr-F, roll-TypedExpr, out-roll-TypedExpr, TypedNode, out-TypedNode, TypedLink, TypedSuffix, TypedSuffixNode, Variable, Scope, Seen, SeenKind, ActionHead, Table, Found, event_of, Arguments, Gives, Judged, Demand, arguments_found, action_named, fields_at, Pair, seen, outer_code, variable, root_of, name_found, Part, known, judged, shape_given, sound, EventShape, Named, Meant, Around, type_named, Form, TypedForm, variable_form, ExprIs, FormIs, NodeIs, ExprsAre}
 use Rattle.epl_values.specs.declared.shape.Shape.TheVariants as shape
 use Rattle.epl_tree.specs.declared.expression.ExprNode.TheOpen as tree
 use Rattle.typed_program.specs.declared.expression.TypedEntry.{TypedEntry-F, roll-TypedEntry, out-TypedEntry, out-roll-TypedEntry}

@@ -1,5 +1,6 @@
 -- Where names and actions, as they are known by number, are what the checker sees by them.
-use Rattle.name_resolution.specs.Common.{ℕ, ◌+◌, ◌≡◌, Bool, true, List, Option, Some, option_map, Site, Variable, Scope, ActionHead, Table, Names}
+use Rattle.std.specs.Prelude.{◌+◌, ◌≡◌}
+use Rattle.name_resolution.specs.Common.{ℕ, Bool, true, List, Option, Some, option_map, Site, Variable, Scope, ActionHead, Table, Names}
 use Rattle.typed_program.specs.declared.statement.Variable.TheVariants as variable
 use Rattle.type_table.specs.declared.scope.Seen.{Seen}
 use Rattle.type_table.specs.declared.scope.SeenKind.{SeenKind}

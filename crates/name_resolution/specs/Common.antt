@@ -1,6 +1,6 @@
 -- The names that most files here cite, passed on from one place. Declares nothing.
 pub use Rattle.std.specs.Option.{option_map}
-pub use Rattle.std.specs.Prelude.{Bool, List, None, Option, Some, [], codes, if◌then◌else◌, length, map, pos, slice_get, true, ℕ, ◌*◌, ◌++◌, ◌+◌, ◌-◌, ◌==◌, ◌∷◌, ◌≡◌}
+pub use Rattle.std.specs.Prelude.{Bool, List, None, Option, Some, [], codes, length, map, pos, slice_get, true, ℕ}
 pub use Rattle.epl_tree.specs.declared.event.EventExpr.{EventExpr}
 pub use Rattle.epl_tree.specs.declared.expression.Comparison.{Comparison}
 pub use Rattle.epl_tree.specs.declared.expression.Expr.{Expr}

@@ -1,7 +1,7 @@
 -- Which term an event expression is: the same form over the same parts in the same order, durations and operands by their places
 -- among what is evaluated at the `on`.
-use Rattle.name_resolution.specs.Common.{ℕ, ◌+◌, ◌-◌, ◌*◌, ◌==◌, pos, List, [], ◌∷◌, Option, Some, None, slice_get, ◌≡◌, EventShape, Field, Shape, out-Shape, EventExpr, Comparison, Expr, Link, out-Link, Suffix, Name, TypedExpr}
-use Rattle.std.specs.Prelude.{take, drop}
+use Rattle.name_resolution.specs.Common.{ℕ, pos, List, [], Option, Some, None, slice_get, EventShape, Field, Shape, out-Shape, EventExpr, Comparison, Expr, Link, out-Link, Suffix, Name, TypedExpr}
+use Rattle.std.specs.Prelude.{◌+◌, ◌-◌, ◌*◌, ◌==◌, ◌∷◌, ◌≡◌, take, drop}
 use Rattle.std.specs.List.{position}
 use Rattle.epl_values.specs.declared.shape.Shape.TheOpen as shape
 use Rattle.epl_tree.specs.declared.event.Constraint.{Constraint}

@@ -1,6 +1,6 @@
 -- Which typed expression an expression is: the same form over the same parts in the same order, each name by its number.
-use Rattle.name_resolution.specs.Common.{ℕ, ◌+◌, ◌-◌, ◌*◌, pos, Bool, List, [], ◌∷◌, Option, Some, None, slice_get, ◌≡◌, EventShape, Field, Shape, out-Shape, TypeExpr, Comparison, Expr, Link, out-Link, Suffix, Method, TypedExpr, Variable}
-use Rattle.std.specs.Prelude.{neg_ℤ}
+use Rattle.name_resolution.specs.Common.{ℕ, pos, Bool, List, [], Option, Some, None, slice_get, EventShape, Field, Shape, out-Shape, TypeExpr, Comparison, Expr, Link, out-Link, Suffix, Method, TypedExpr, Variable}
+use Rattle.std.specs.Prelude.{◌+◌, ◌-◌, ◌*◌, ◌∷◌, ◌≡◌, neg_ℤ}
 use Rattle.epl_values.specs.declared.shape.Shape.TheOpen as shape
 use Rattle.epl_tree.specs.declared.expression.Entry.{Entry, out-Entry}
 use Rattle.epl_tree.specs.declared.expression.Expr.{out-Expr}

@@ -1,6 +1,6 @@
 -- What is to hold of each part in which no fault is found: of expressions, event expressions and statements in a row.
-use Rattle.name_resolution.specs.Common.{ℕ, ◌+◌, ◌≡◌, Bool, true, List, [], ◌++◌, map, length, Some, slice_get, Shape, EventExpr, Expr, Site, Scope, ActionHead, Table, Names}
-use Rattle.std.specs.Prelude.{◌≤◌, false}
+use Rattle.name_resolution.specs.Common.{ℕ, Bool, true, List, [], map, length, Some, slice_get, Shape, EventExpr, Expr, Site, Scope, ActionHead, Table, Names}
+use Rattle.std.specs.Prelude.{◌+◌, ◌≡◌, ◌++◌, ◌≤◌, false}
 use Rattle.epl_tree.specs.declared.statement.Stmt.{Stmt as Tree}
 use Rattle.expr_rules.specs.Asked.{Demand}
 use Rattle.expr_check.specs.Expressions.{expr_found}

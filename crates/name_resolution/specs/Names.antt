@@ -1,7 +1,7 @@
 -- What names stand for. Of two of one name the first counts, though no two that are visible together have one name
 -- (`docs/TYPES.md`, "Names").
-use Rattle.name_resolution.specs.Common.{ℕ, List, [], ◌∷◌, map, Option, Some, None, if◌then◌else◌, codes, EventShape, Field, Shape, Method, Variable}
-use Rattle.std.specs.Prelude.{min, position}
+use Rattle.name_resolution.specs.Common.{ℕ, List, [], map, Option, Some, None, codes, EventShape, Field, Shape, Method, Variable}
+use Rattle.std.specs.Prelude.{◌∷◌, if◌then◌else◌, min, position}
 use Rattle.std.specs.Str.{bytes_eq}
 use Rattle.typed_program.specs.declared.expression.Method.TheVariants as method
 

@@ -1,7 +1,8 @@
 -- The typed program of program files is their trees with names resolved: the same forms over the same parts in the same order, each
 -- name by the number of what it stands for. What is left to `Typed` (typed_program): that shapes fit, that limits hold, and that an
 -- operand of an event expression names bound names only where it may.
-use Rattle.name_resolution.specs.Common.{List, length, ◌≡◌, Program}
+use Rattle.std.specs.Prelude.{◌≡◌}
+use Rattle.name_resolution.specs.Common.{List, length, Program}
 use Rattle.epl_tree.specs.declared.unit.Unit.{Unit as File}
 use Rattle.name_resolution.specs.Units.{declarations_in, events_in, monitors_in, EventsAre, MonitorsAre}
 

@@ -1,6 +1,6 @@
 -- Which typed statement a statement is, and what is visible behind it.
-use Rattle.name_resolution.specs.Common.{ℕ, ◌+◌, ◌==◌, Bool, List, [], ◌∷◌, ◌++◌, map, length, Option, Some, None, slice_get, if◌then◌else◌, codes, ◌≡◌, Shape, Shape-F, out-Shape, Expr, Name, TypeExpr, TypedExpr, Site, Variable}
-use Rattle.std.specs.Prelude.{nat_lt, count_by}
+use Rattle.name_resolution.specs.Common.{ℕ, Bool, List, [], map, length, Option, Some, None, slice_get, codes, Shape, Shape-F, out-Shape, Expr, Name, TypeExpr, TypedExpr, Site, Variable}
+use Rattle.std.specs.Prelude.{◌+◌, ◌==◌, ◌∷◌, ◌++◌, if◌then◌else◌, ◌≡◌, nat_lt, count_by}
 use Rattle.std.specs.List.{list_any}
 use Rattle.epl_values.specs.declared.shape.Shape.TheOpen as layer
 use Rattle.epl_values.specs.declared.shape.Shape.TheVariants as shape

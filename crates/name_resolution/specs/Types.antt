@@ -1,5 +1,6 @@
 -- Which shape a written type is.
-use Rattle.name_resolution.specs.Common.{ℕ, List, Some, ◌≡◌, EventShape, Shape, Shape-F, out-Shape, TypeExpr}
+use Rattle.std.specs.Prelude.{◌≡◌}
+use Rattle.name_resolution.specs.Common.{ℕ, List, Some, EventShape, Shape, Shape-F, out-Shape, TypeExpr}
 use Rattle.epl_values.specs.declared.shape.Shape.TheOpen as shape
 use Rattle.epl_tree.specs.declared.types.TypeExpr.{out-TypeExpr}
 use Rattle.epl_tree.specs.declared.types.TypeNode.{TypeNode, TypeNode-F, out-TypeNode}

@@ -1,5 +1,6 @@
 -- Which typed program program files are: their event types, and their monitors with globals and actions, in order of the source.
-use Rattle.name_resolution.specs.Common.{ℕ, ◌+◌, List, [], ◌∷◌, ◌++◌, length, Option, Some, None, slice_get, codes, ◌≡◌, option_map, EventShape, Field, Shape, TypeExpr, Program, Site}
+use Rattle.std.specs.Prelude.{◌+◌, ◌∷◌, ◌++◌, ◌≡◌}
+use Rattle.name_resolution.specs.Common.{ℕ, List, [], length, Option, Some, None, slice_get, codes, option_map, EventShape, Field, Shape, TypeExpr, Program, Site}
 use Rattle.epl_tree.specs.declared.unit.ActionDecl.{ActionDecl}
 use Rattle.epl_tree.specs.declared.unit.Declaration.{Declaration}
 use Rattle.epl_tree.specs.declared.unit.Declaration.TheVariants as declaration

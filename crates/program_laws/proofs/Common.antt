@@ -1,5 +1,5 @@
 -- The names that most files here cite, passed on from one place. Declares nothing.
-pub use Rattle.std.proofs.Common.{Bool, IfSome, List, None, Option, Some, [], ap, append_assoc, ap₂, arith, codes, cond, drop, false, filter, get_or, if◌then◌else◌, inl, inr, insert, is_some, length, map, min, nat_le, nat_lt, not, option_map, pos, refl, slice_get, subst, suc, sym, take, true, true≢false, zero, ℕ, ℤ, ◌&&◌, ◌++◌, ◌+◌, ◌-◌, ◌<◌, ◌==◌, ◌||◌, ◌∙◌, ◌∷◌, ◌≡◌, ◌≤◌, ◌⊎◌}
+pub use Rattle.std.proofs.Common.{Bool, IfSome, List, None, Option, Some, [], ap, append_assoc, ap₂, arith, codes, cond, drop, false, filter, get_or, inl, inr, insert, is_some, length, map, min, nat_le, nat_lt, not, option_map, pos, refl, slice_get, subst, suc, sym, take, true, true≢false, zero, ℕ, ℤ, ◌∙◌}
 pub use Rattle.std.proofs.Math.Seq.{drop-append_seam}
 pub use Rattle.std.proofs.lemmas.Bool.{and_from, and_parts, cases_lt, eq-eqb, eqb-true, le-leb, leb-false, lt-ltb, not-false, not-true, not_from_false, or_cases, or_from, or_left, or_parts, or_right}
 pub use Rattle.std.proofs.lemmas.Bool.Decides.{nat_tests}

@@ -1,5 +1,5 @@
 -- The names that most files here cite, passed on from one place. Declares nothing.
-pub use Rattle.std.specs.Prelude.{Bool, List, None, Option, Some, false, not, true, ℕ, ◌&&◌, ◌≡◌}
+pub use Rattle.std.specs.Prelude.{Bool, List, None, Option, Some, false, not, true, ℕ}
 pub use Rattle.expr_rules.specs.Calls.{action_named}
 pub use Rattle.expr_rules.specs.Names.{seen}
 pub use Rattle.type_table.specs.declared.scope.Scope.{Scope}

@@ -1,6 +1,6 @@
 -- Where all names are known: the table and the scope of a text, and what its body knows by number, speak of the same things.
-use Rattle.program_laws.specs.Common.{ℕ, ◌≡◌, Bool, true, false, ◌&&◌, not, List, Option, Some, None, Scope, Seen, SeenKind, Table, ActionHead, action_named, seen}
-use Rattle.std.specs.Prelude.{◌≤◌, ◌||◌, length, map, slice_get}
+use Rattle.program_laws.specs.Common.{ℕ, Bool, true, false, not, List, Option, Some, None, Scope, Seen, SeenKind, Table, ActionHead, action_named, seen}
+use Rattle.std.specs.Prelude.{◌≡◌, ◌&&◌, ◌≤◌, ◌||◌, length, map, slice_get}
 use Rattle.std.specs.List.{AllByRecursion, list_all}
 use Rattle.epl_values.specs.declared.shape.Shape.{Shape}
 use Rattle.epl_values.specs.declared.shape.EventShape.{EventShape}

@@ -1,6 +1,6 @@
 -- What is visible in a text, and what its body sees by number: kinds, roots of paths, and the actions that aren't called.
-use Rattle.program_laws.specs.Common.{ℕ, ◌≡◌, Bool, true, false, ◌&&◌, not, List, Option, Some, None, Scope, Seen, SeenKind, Table, ActionHead, action_named, seen}
-use Rattle.std.specs.Prelude.{◌-◌, ◌==◌}
+use Rattle.program_laws.specs.Common.{ℕ, Bool, true, false, not, List, Option, Some, None, Scope, Seen, SeenKind, Table, ActionHead, action_named, seen}
+use Rattle.std.specs.Prelude.{◌≡◌, ◌&&◌, ◌-◌, ◌==◌}
 use Rattle.std.specs.List.{list_any}
 use Rattle.typed_program.specs.Mentions.{Mention}
 use Rattle.typed_program.specs.Paths.{Kind, Free, Held, Bound, Visible, Root as Begins, Path, visible_at, plain, argument}

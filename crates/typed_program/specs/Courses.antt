@@ -1,5 +1,6 @@
 -- The rules of statements: what is visible where, what may be assigned, where loops and bodies end, and what callbacks see.
-use Rattle.typed_program.specs.Common.{ℕ, zero, suc, ◌+◌, Bool, true, false, ◌&&◌, not, ◌==◌, nat_lt, List, [], ◌∷◌, ◌++◌, map, length, Option, Some, None, is_some, slice_get, if◌then◌else◌, list_all, list_any, Shape}
+use Rattle.std.specs.Prelude.{◌+◌, ◌&&◌, ◌==◌, ◌∷◌, ◌++◌, if◌then◌else◌}
+use Rattle.typed_program.specs.Common.{ℕ, zero, suc, Bool, true, false, not, nat_lt, List, [], map, length, Option, Some, None, is_some, slice_get, list_all, list_any, Shape}
 use Rattle.typed_program.specs.declared.expression.TypedExpr.{TypedExpr}
 use Rattle.typed_program.specs.declared.program.Local.{Local}
 use Rattle.typed_program.specs.declared.program.Site.{Site}

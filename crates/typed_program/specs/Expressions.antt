@@ -1,5 +1,6 @@
 -- Expressions have their shapes: each number names something that is there, and each part has the shape that its place asks.
-use Rattle.typed_program.specs.Common.{ℕ, Bool, true, false, ◌&&◌, ◌||◌, ◌==◌, List, [], ◌∷◌, map, Option, Some, None, slice_get, list_all, Shape, Shape-F, out-Shape, EventShape, Comparison}
+use Rattle.std.specs.Prelude.{◌&&◌, ◌||◌, ◌==◌, ◌∷◌}
+use Rattle.typed_program.specs.Common.{ℕ, Bool, true, false, List, [], map, Option, Some, None, slice_get, list_all, Shape, Shape-F, out-Shape, EventShape, Comparison}
 use Rattle.epl_values.specs.declared.shape.Shape.TheVariants as shape
 use Rattle.epl_values.specs.declared.shape.Shape.TheOpen as layer
 use Rattle.epl_values.specs.declared.shape.Field.{Field}

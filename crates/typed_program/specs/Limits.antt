@@ -1,5 +1,6 @@
 -- The limits of a program: event types, monitors, fields, parameters, bodies.
-use Rattle.typed_program.specs.Common.{ℕ, zero, suc, ◌+◌, Bool, true, false, ◌&&◌, nat_le, List, [], ◌∷◌, length, Option, Some, None, slice_get, list_all, Shape, Shape-F, out-Shape, EventShape}
+use Rattle.std.specs.Prelude.{◌+◌, ◌&&◌, ◌∷◌}
+use Rattle.typed_program.specs.Common.{ℕ, zero, suc, Bool, true, false, nat_le, List, [], length, Option, Some, None, slice_get, list_all, Shape, Shape-F, out-Shape, EventShape}
 use Rattle.std.specs.List.{sum_by}
 use Rattle.epl_values.specs.declared.shape.Shape.TheOpen as layer
 use Rattle.typed_program.specs.declared.program.Program.{Program}

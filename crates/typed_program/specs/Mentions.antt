@@ -1,6 +1,7 @@
 -- Which locals of its body a part names, by their numbers: in expressions, in places, and in what an inner `on` evaluates and
 -- takes along.
-use Rattle.typed_program.specs.Common.{ℕ, suc, Bool, true, false, ◌&&◌, ◌||◌, ◌==◌, List, [], ◌∷◌, map, Option, Some, None, slice_get, list_any}
+use Rattle.std.specs.Prelude.{◌&&◌, ◌||◌, ◌==◌, ◌∷◌}
+use Rattle.typed_program.specs.Common.{ℕ, suc, Bool, true, false, List, [], map, Option, Some, None, slice_get, list_any}
 use Rattle.typed_program.specs.declared.expression.TypedExpr.{TypedExpr}
 use Rattle.typed_program.specs.declared.expression.TypedSuffix.{TypedSuffix}
 use Rattle.typed_program.specs.declared.expression.TypedNode.TheOpen.{TypedNode-F, TypedSuffixNode-F, TypedEntry-F, TypedExpr-F, TypedLink-F, TypedSuffix-F}

@@ -1,5 +1,6 @@
 -- The methods of each type: what they take, and what they give.
-use Rattle.typed_program.specs.Common.{ℕ, Bool, true, false, not, if◌then◌else◌, List, [], ◌∷◌, Option, Some, None, Shape, Shape-F, out-Shape}
+use Rattle.std.specs.Prelude.{if◌then◌else◌, ◌∷◌}
+use Rattle.typed_program.specs.Common.{ℕ, Bool, true, false, not, List, [], Option, Some, None, Shape, Shape-F, out-Shape}
 use Rattle.epl_values.specs.declared.shape.Shape.TheVariants as shape
 use Rattle.epl_values.specs.declared.shape.Shape.TheOpen as layer
 use Rattle.typed_program.specs.declared.expression.Method.{Method}

@@ -1,5 +1,6 @@
 -- The rules of visible names, paths and changes in expressions. A path is a variable, or a field or element reached from one.
-use Rattle.typed_program.specs.Common.{ℕ, ◌+◌, Bool, true, false, ◌&&◌, ◌||◌, not, ◌==◌, nat_le, List, [], ◌∷◌, ◌++◌, map, length, Option, Some, None, is_some, if◌then◌else◌, list_all, list_any, Shape}
+use Rattle.std.specs.Prelude.{◌+◌, ◌&&◌, ◌||◌, ◌==◌, ◌∷◌, ◌++◌, if◌then◌else◌}
+use Rattle.typed_program.specs.Common.{ℕ, Bool, true, false, not, nat_le, List, [], map, length, Option, Some, None, is_some, list_all, list_any, Shape}
 use Rattle.std.specs.List.{find}
 use Rattle.typed_program.specs.declared.expression.Method.{Method}
 use Rattle.typed_program.specs.declared.expression.Method.TheVariants as method

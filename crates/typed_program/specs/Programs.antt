@@ -1,5 +1,6 @@
 -- Programs whose numbers name something and whose expressions, locals and globals have their shapes.
-use Rattle.typed_program.specs.Common.{ℕ, ◌+◌, ◌≡◌, Bool, true, false, ◌&&◌, not, ◌==◌, List, [], ◌∷◌, ◌++◌, length, map, Option, Some, None, is_some, slice_get, list_all, Shape, EventShape}
+use Rattle.std.specs.Prelude.{◌+◌, ◌≡◌, ◌&&◌, ◌==◌, ◌∷◌, ◌++◌}
+use Rattle.typed_program.specs.Common.{ℕ, Bool, true, false, not, List, [], length, map, Option, Some, None, is_some, slice_get, list_all, Shape, EventShape}
 use Rattle.typed_program.specs.declared.expression.TypedExpr.{TypedExpr}
 use Rattle.typed_program.specs.declared.program.Program.{Program}
 use Rattle.typed_program.specs.declared.program.Monitor.{Monitor}

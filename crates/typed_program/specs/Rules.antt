@@ -1,5 +1,6 @@
 -- Programs that keep the rules of names, paths, changes, ends and event expressions.
-use Rattle.typed_program.specs.Common.{ℕ, zero, suc, ◌+◌, ◌≡◌, Bool, true, false, ◌&&◌, ◌||◌, not, nat_lt, List, [], ◌∷◌, ◌++◌, length, map, Option, Some, None, is_some, slice_get, list_all, Shape}
+use Rattle.std.specs.Prelude.{◌+◌, ◌≡◌, ◌&&◌, ◌||◌, ◌∷◌, ◌++◌}
+use Rattle.typed_program.specs.Common.{ℕ, zero, suc, Bool, true, false, not, nat_lt, List, [], length, map, Option, Some, None, is_some, slice_get, list_all, Shape}
 use Rattle.typed_program.specs.declared.expression.TypedExpr.{TypedExpr}
 use Rattle.typed_program.specs.declared.program.Program.{Program}
 use Rattle.typed_program.specs.declared.program.Monitor.{Monitor}

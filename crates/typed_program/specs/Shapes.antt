@@ -1,5 +1,6 @@
 -- What is asked about shapes.
-use Rattle.typed_program.specs.Common.{ℕ, Bool, true, false, ◌&&◌, ◌||◌, not, ◌==◌, nat_lt, List, length, Option, Some, None, Shape, Shape-F, out-Shape, EventShape}
+use Rattle.std.specs.Prelude.{◌&&◌, ◌||◌, ◌==◌}
+use Rattle.typed_program.specs.Common.{ℕ, Bool, true, false, not, nat_lt, List, length, Option, Some, None, Shape, Shape-F, out-Shape, EventShape}
 use Rattle.epl_values.specs.declared.shape.Shape.{fold-Shape}
 use Rattle.epl_values.specs.declared.shape.Shape.TheOpen as layer
 

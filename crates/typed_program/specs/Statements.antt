@@ -1,5 +1,6 @@
 -- Statements: each number names something that is there, and each expression has the shape that its place asks.
-use Rattle.typed_program.specs.Common.{ℕ, Bool, true, false, ◌&&◌, ◌||◌, not, ◌==◌, List, [], ◌∷◌, map, Option, Some, None, is_some, slice_get, list_all, Shape}
+use Rattle.std.specs.Prelude.{◌&&◌, ◌||◌, ◌==◌, ◌∷◌}
+use Rattle.typed_program.specs.Common.{ℕ, Bool, true, false, not, List, [], map, Option, Some, None, is_some, slice_get, list_all, Shape}
 use Rattle.epl_values.specs.declared.shape.Shape.TheVariants as shape
 use Rattle.typed_program.specs.declared.expression.TypedExpr.{TypedExpr}
 use Rattle.typed_program.specs.declared.program.Action.{Action}

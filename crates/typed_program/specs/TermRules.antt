@@ -1,7 +1,7 @@
 -- The rules of event expressions: what may be constrained, which co-assignments an operand may name, where `not` may stand, and
 -- how many leaves and operands there are.
-use Rattle.typed_program.specs.Common.{ℕ, ◌+◌, Bool, true, false, ◌&&◌, ◌||◌, not, ◌==◌, nat_le, List, [], ◌∷◌, ◌++◌, map, length, Option, Some, None, if◌then◌else◌, list_all, list_any, Shape, Shape-F, out-Shape, EventShape, Comparison}
-use Rattle.std.specs.Prelude.{sum}
+use Rattle.typed_program.specs.Common.{ℕ, Bool, true, false, not, nat_le, List, [], map, length, Option, Some, None, list_all, list_any, Shape, Shape-F, out-Shape, EventShape, Comparison}
+use Rattle.std.specs.Prelude.{◌+◌, ◌&&◌, ◌||◌, ◌==◌, ◌∷◌, ◌++◌, if◌then◌else◌, sum}
 use Rattle.std.specs.List.{flat_map}
 use Rattle.epl_values.specs.declared.shape.Shape.TheOpen as layer
 use Rattle.epl_tree.specs.declared.expression.Comparison.TheVariants as comparison

@@ -1,6 +1,7 @@
 -- Event expressions: each template is of an event type that is there, and each of its constraints has operands of its field's
 -- shape; durations are integers; bound names are events.
-use Rattle.typed_program.specs.Common.{ℕ, Bool, true, false, ◌&&◌, ◌==◌, List, [], ◌∷◌, Option, Some, None, slice_get, list_all, Shape, Shape-F, out-Shape, EventShape}
+use Rattle.std.specs.Prelude.{◌&&◌, ◌==◌, ◌∷◌}
+use Rattle.typed_program.specs.Common.{ℕ, Bool, true, false, List, [], Option, Some, None, slice_get, list_all, Shape, Shape-F, out-Shape, EventShape}
 use Rattle.epl_values.specs.declared.shape.Shape.TheVariants as shape
 use Rattle.epl_values.specs.declared.shape.Shape.TheOpen as layer
 use Rattle.typed_program.specs.declared.term.Term.{Term, Term-F, fold-Term}

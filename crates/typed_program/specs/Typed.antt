@@ -1,5 +1,6 @@
 -- Typed programs: what each layer below the checker may count on.
-use Rattle.typed_program.specs.Common.{◌≡◌, true}
+use Rattle.std.specs.Prelude.{◌≡◌}
+use Rattle.typed_program.specs.Common.{true}
 use Rattle.typed_program.specs.declared.program.Program.{Program}
 use Rattle.event_types.specs.Types.{HasDistinctNames, HasNoCycle}
 use Rattle.typed_program.specs.Programs.{HasShapes}

@@ -1,6 +1,7 @@
 -- Runs of bodies keep the shapes of variables: initial values, actions and callbacks.
-use Rattle.typed_runs.proofs.Common.{◌≡◌, ℕ, zero, suc, Bool, true, false, ◌&&◌, not, ◌==◌, List, [], ◌∷◌, length, map, Option, Some, None, Ok, refl, sym, ap, subst, ◌∙◌, slice_get, is_some, nat_lt, if◌then◌else◌, option_map, list_all, eqb-true, slice_get-map, Shape, Value, Program, Action, Site, TypedExpr, stands, checked, callback_params, Typed, Scene, Frame, Outcome, Went, Ended, M, with_variable, value_of, calls, action_run, Fit, AllFit, fit_nil, default_fits, globals_in, GlobalsFit, FrameFits, OutcomeFits, Keeps}
-use Rattle.std.proofs.Common.{◌+◌, ◌-◌, arith}
+use Rattle.std.specs.Prelude.{if◌then◌else◌}
+use Rattle.typed_runs.proofs.Common.{ℕ, zero, suc, Bool, true, false, not, List, [], length, map, Option, Some, None, Ok, refl, sym, ap, subst, ◌∙◌, slice_get, is_some, nat_lt, option_map, list_all, eqb-true, slice_get-map, Shape, Value, Program, Action, Site, TypedExpr, stands, checked, callback_params, Typed, Scene, Frame, Outcome, Went, Ended, M, with_variable, value_of, calls, action_run, Fit, AllFit, fit_nil, default_fits, globals_in, GlobalsFit, FrameFits, OutcomeFits, Keeps}
+use Rattle.std.proofs.Common.{◌≡◌, ◌&&◌, ◌==◌, ◌∷◌, ◌+◌, ◌-◌, arith}
 use Rattle.std.proofs.lemmas.Option.{same_Some}
 use Rattle.typed_program.specs.declared.program.Global.{Global}
 use Rattle.typed_program.specs.declared.program.Monitor.{Monitor}

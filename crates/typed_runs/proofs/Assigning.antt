@@ -1,5 +1,6 @@
 -- Places that are assigned lead to the shapes that stand at them.
-use Rattle.typed_runs.proofs.Common.{◌≡◌, ℕ, List, [], ◌∷◌, Option, Some, None, Err, refl, subst, Shape, Program, Move, M, Reach}
+use Rattle.std.proofs.Common.{◌≡◌, ◌∷◌}
+use Rattle.typed_runs.proofs.Common.{ℕ, List, [], Option, Some, None, Err, refl, subst, Shape, Program, Move, M, Reach}
 use Rattle.action_host.specs.declared.host.Fault.TheVariants as fault
 use Rattle.body_meaning.specs.Statements.{move_of, moves_in}
 use Rattle.typed_runs.proofs.Keeping.{keeps_given}

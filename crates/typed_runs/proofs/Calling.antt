@@ -1,5 +1,6 @@
 -- Calls of actions keep the shapes of variables, however deep they nest.
-use Rattle.typed_runs.proofs.Common.{◌≡◌, ℕ, zero, suc, Bool, true, false, ◌&&◌, ◌||◌, not, ◌⊎◌, inl, inr, List, [], ◌∷◌, ◌++◌, length, Option, Some, None, Ok, Err, refl, sym, subst, slice_get, is_some, or_cases, Shape, Value, Program, Action, Site, stands, row_holds, callback_params, ends_with_return, Typed, Flow, Next, Broke, Continued, Returned, Frame, M, Calls, body_of, action_run, calls, AllFit, MayFit, fit_append, default_fits, globals_in, FrameFits, Keeps}
+use Rattle.std.proofs.Common.{◌≡◌, ◌&&◌, ◌||◌, ◌⊎◌, ◌∷◌, ◌++◌}
+use Rattle.typed_runs.proofs.Common.{ℕ, zero, suc, Bool, true, false, not, inl, inr, List, [], length, Option, Some, None, Ok, Err, refl, sym, subst, slice_get, is_some, or_cases, Shape, Value, Program, Action, Site, stands, row_holds, callback_params, ends_with_return, Typed, Flow, Next, Broke, Continued, Returned, Frame, M, Calls, body_of, action_run, calls, AllFit, MayFit, fit_append, default_fits, globals_in, FrameFits, Keeps}
 use Rattle.typed_program.specs.Terms.{fits_term}
 use Rattle.typed_program.specs.Programs.{action_names, action_body, callback_body, all_stand, is_there, action_so, site_so, site_around}
 use Rattle.typed_program.specs.Courses.{runs as lawful_runs}

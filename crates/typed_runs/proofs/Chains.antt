@@ -1,5 +1,6 @@
 -- Operators with their operands, and the entries of dictionaries, put together from parts that keep the shapes of variables.
-use Rattle.typed_runs.proofs.Common.{ℕ, Bool, List, [], ◌∷◌, AllByRecursion, Shape, Value, Pair, Operator, Program, M, truth_of, Linking, Pairing, or_from, and_from, xor_from, links_from, entries_behind, Fit, Keeps}
+use Rattle.std.proofs.Common.{◌∷◌}
+use Rattle.typed_runs.proofs.Common.{ℕ, Bool, List, [], AllByRecursion, Shape, Value, Pair, Operator, Program, M, truth_of, Linking, Pairing, or_from, and_from, xor_from, links_from, entries_behind, Fit, Keeps}
 use Rattle.epl_values.specs.declared.value.Value.TheVariants as value
 use Rattle.epl_values.specs.Order.{KeysAscend}
 use Rattle.body_meaning.specs.Values.{differ}

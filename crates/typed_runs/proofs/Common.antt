@@ -1,11 +1,11 @@
 -- The names that most files here cite, passed on from one place. Declares nothing.
-pub use Rattle.std.proofs.Common.{Bool, Err, List, None, Ok, Option, Result, Some, [], ap, false, inl, inr, length, map, not, refl, subst, suc, sym, true, zero, ℕ, ◌&&◌, ◌++◌, ◌==◌, ◌||◌, ◌∙◌, ◌∷◌, ◌≡◌, ◌⊎◌}
+pub use Rattle.std.proofs.Common.{Bool, Err, List, None, Ok, Option, Result, Some, [], ap, false, inl, inr, length, map, not, refl, subst, suc, sym, true, zero, ℕ, ◌∙◌}
 pub use Rattle.std.proofs.lemmas.Bool.{eqb-true, or_cases}
 pub use Rattle.std.proofs.lemmas.List.{append-nil, append_assoc}
 pub use Rattle.std.proofs.lemmas.Option.{slice_get-map}
 pub use Rattle.std.specs.List.{AllByRecursion, AllZip, list_all}
 pub use Rattle.std.specs.Option.{option_map}
-pub use Rattle.std.specs.Prelude.{if◌then◌else◌, is_some, nat_lt, slice_get}
+pub use Rattle.std.specs.Prelude.{is_some, nat_lt, slice_get}
 pub use Rattle.action_host.specs.Scenes.{Scene}
 pub use Rattle.action_host.specs.declared.host.Fault.{Fault}
 pub use Rattle.body_meaning.specs.Acts.{action_run, calls}

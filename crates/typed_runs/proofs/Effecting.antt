@@ -1,6 +1,7 @@
 -- Effects keep the shapes of variables, and carry what they are to carry.
-use Rattle.typed_runs.proofs.Common.{◌≡◌, ℕ, Bool, true, false, List, [], ◌∷◌, Some, sym, subst, if◌then◌else◌, slice_get, nat_lt, Shape, Value, Value-F, out-Value, Pair, Program, Action, M, truth_of, Fit, AllFit, fit_append, globals_in, GlobalsFit, Keeps, ListenFits}
-use Rattle.std.specs.Prelude.{◌==◌, ◌+◌}
+use Rattle.std.proofs.Common.{◌≡◌, ◌∷◌}
+use Rattle.typed_runs.proofs.Common.{ℕ, Bool, true, false, List, [], Some, sym, subst, slice_get, nat_lt, Shape, Value, Value-F, out-Value, Pair, Program, Action, M, truth_of, Fit, AllFit, fit_append, globals_in, GlobalsFit, Keeps, ListenFits}
+use Rattle.std.specs.Prelude.{if◌then◌else◌, ◌==◌, ◌+◌}
 use Rattle.epl_values.specs.declared.shape.Shape.TheVariants as shape
 use Rattle.epl_values.specs.declared.value.Value.TheOpen as layer
 use Rattle.epl_values.specs.declared.value.Value.TheVariants as value

@@ -1,5 +1,6 @@
 -- Expressions that are as they should be keep the shapes of variables: one induction over typed trees.
-use Rattle.typed_runs.proofs.Common.{◌≡◌, ℕ, true, ◌&&◌, List, [], ◌∷◌, map, Option, Some, sym, ap, subst, slice_get, AllZip, Shape, Value, Program, Action, TypedExpr, TypedSuffix, Names, Checked, Linked, Paired, Stepping, if_known, gives, may_stand, shape_of, checked, stepping, Calls, Meant, Reach, Pairing, Linking, read, AllFit, MayFit, Keeps}
+use Rattle.std.proofs.Common.{◌≡◌, ◌&&◌, ◌∷◌}
+use Rattle.typed_runs.proofs.Common.{ℕ, true, List, [], map, Option, Some, sym, ap, subst, slice_get, AllZip, Shape, Value, Program, Action, TypedExpr, TypedSuffix, Names, Checked, Linked, Paired, Stepping, if_known, gives, may_stand, shape_of, checked, stepping, Calls, Meant, Reach, Pairing, Linking, read, AllFit, MayFit, Keeps}
 use Rattle.typed_program.specs.declared.statement.Variable.TheVariants as variable
 use Rattle.typed_program.specs.declared.expression.TypedExpr.{TypedExpr-F, map-TypedExpr, roll-TypedExpr, fold-roll-TypedExpr, fold_out-TypedExpr}
 use Rattle.typed_program.specs.declared.expression.TypedNode.{TypedNode, TypedNode-F, map-TypedNode, roll-TypedNode, fold-TypedNode, fold-roll-TypedNode}

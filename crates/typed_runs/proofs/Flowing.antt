@@ -1,5 +1,6 @@
 -- How statements end, put together: what is said of their flow, whatever state they begin in.
-use Rattle.typed_runs.proofs.Common.{◌≡◌, ℕ, zero, suc, Bool, true, false, List, [], ◌∷◌, Shape, Value, Program, TypedPlace, Move, Ending, Reading, Visible, Flow, Next, Broke, Continued, Returned, Halt, Spent, State, Did, Outcome, Went, Ended, M, then_do, choose, truth_of, is_next, again, OutcomeFits, Keeps}
+use Rattle.std.proofs.Common.{◌≡◌, ◌∷◌}
+use Rattle.typed_runs.proofs.Common.{ℕ, zero, suc, Bool, true, false, List, [], Shape, Value, Program, TypedPlace, Move, Ending, Reading, Visible, Flow, Next, Broke, Continued, Returned, Halt, Spent, State, Did, Outcome, Went, Ended, M, then_do, choose, truth_of, is_next, again, OutcomeFits, Keeps}
 use Rattle.body_meaning.specs.Runs.{behind, ◌>>=◌, ◌>>◌, pure, halt}
 use Rattle.body_meaning.specs.Statements.{follow, turns, while_of, each, for_of, assign}
 use Rattle.typed_runs.proofs.Keeping.{Any}

@@ -1,6 +1,6 @@
 -- The forms of expressions: each keeps the shapes of variables and gives a value of its shape, where its parts do.
-use Rattle.typed_runs.proofs.Common.{◌≡◌, ℕ, ◌⊎◌, inl, inr, Bool, true, false, ◌&&◌, ◌||◌, ◌==◌, not, List, [], ◌∷◌, map, Option, Some, None, refl, sym, ap, subst, ◌∙◌, slice_get, AllByRecursion, AllZip, list_all, or_cases, eqb-true, Shape, Shape-F, out-Shape, roll-Shape, roll-out-Shape, EventShape, Value, Value-F, out-Value, Pair, Operator, Program, Action, Variable, same, stands, Checked, Linked, Paired, Stepping, if_known, is_of, all_of, are_of, agrees, walks, gives, may_stand, fields_of, default_of, M, choose, all, truth_of, variable_in, Meant, Linking, Pairing, Reach, Calls, read, values_of, or_from, and_from, xor_from, links_from, entries_behind, Fit, AllFit, MayFit, integer_fits, boolean_fits, text_fits, same_is, Keeps}
-use Rattle.std.proofs.Common.{ℤ}
+use Rattle.typed_runs.proofs.Common.{ℕ, inl, inr, Bool, true, false, not, List, [], map, Option, Some, None, refl, sym, ap, subst, ◌∙◌, slice_get, AllByRecursion, AllZip, list_all, or_cases, eqb-true, Shape, Shape-F, out-Shape, roll-Shape, roll-out-Shape, EventShape, Value, Value-F, out-Value, Pair, Operator, Program, Action, Variable, same, stands, Checked, Linked, Paired, Stepping, if_known, is_of, all_of, are_of, agrees, walks, gives, may_stand, fields_of, default_of, M, choose, all, truth_of, variable_in, Meant, Linking, Pairing, Reach, Calls, read, values_of, or_from, and_from, xor_from, links_from, entries_behind, Fit, AllFit, MayFit, integer_fits, boolean_fits, text_fits, same_is, Keeps}
+use Rattle.std.proofs.Common.{◌≡◌, ◌⊎◌, ◌&&◌, ◌||◌, ◌==◌, ◌∷◌, ℤ}
 use Rattle.epl_values.specs.declared.shape.Shape.TheOpen as layer
 use Rattle.epl_values.specs.declared.shape.Shape.TheVariants as shape
 use Rattle.epl_values.specs.declared.value.Value.TheOpen as value_layer

@@ -1,5 +1,6 @@
 -- Runs that keep the shapes of variables, put together.
-use Rattle.typed_runs.proofs.Common.{◌≡◌, ℕ, Bool, true, false, List, [], ◌∷◌, ◌++◌, Result, Ok, Err, refl, sym, subst, AllZip, append_assoc, append-nil, Shape, Value, Program, Fault, Scene, Frame, Halt, State, Did, Outcome, Went, Ended, M, then_do, choose, all_behind, all, GlobalsFit, FrameFits, OutcomeFits, Keeps}
+use Rattle.std.proofs.Common.{◌≡◌, ◌∷◌, ◌++◌}
+use Rattle.typed_runs.proofs.Common.{ℕ, Bool, true, false, List, [], Result, Ok, Err, refl, sym, subst, AllZip, append_assoc, append-nil, Shape, Value, Program, Fault, Scene, Frame, Halt, State, Did, Outcome, Went, Ended, M, then_do, choose, all_behind, all, GlobalsFit, FrameFits, OutcomeFits, Keeps}
 use Rattle.std.specs.Prelude.{nat_le}
 use Rattle.std.proofs.lemmas.List.Elements.{All-append, All-nil, All-cons}
 use Rattle.epl_values.specs.declared.value.Value.TheVariants as value

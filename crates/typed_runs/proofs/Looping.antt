@@ -1,5 +1,6 @@
 -- Statements in a row, loops, and what is assigned, put together from parts that keep the shapes of variables.
-use Rattle.typed_runs.proofs.Common.{◌≡◌, ℕ, zero, suc, List, [], ◌∷◌, Some, slice_get, AllByRecursion, Shape, Value, Program, TypedPlace, cost_of, Flow, Next, Broke, Continued, Returned, Spent, Move, M, truth_of, store, set_local, is_next, row, again, set, Fit, Keeps}
+use Rattle.std.proofs.Common.{◌≡◌, ◌∷◌}
+use Rattle.typed_runs.proofs.Common.{ℕ, zero, suc, List, [], Some, slice_get, AllByRecursion, Shape, Value, Program, TypedPlace, cost_of, Flow, Next, Broke, Continued, Returned, Spent, Move, M, truth_of, store, set_local, is_next, row, again, set, Fit, Keeps}
 use Rattle.body_meaning.specs.Values.{items_of}
 use Rattle.body_meaning.specs.Statements.{turns, while_of, each, elements_of, for_of, done, assign}
 use Rattle.typed_runs.proofs.Keeping.{Any, keeps_pure, keeps_halt, keeps_charge, keeps_bind, keeps_seq, keeps_choose, leaves_change}

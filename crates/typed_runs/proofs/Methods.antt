@@ -1,5 +1,6 @@
 -- Methods keep the shapes of variables, and give values of the shapes of their signatures.
-use Rattle.typed_runs.proofs.Common.{◌≡◌, ℕ, Bool, true, false, not, List, Option, Some, None, sym, ap, subst, ◌∙◌, is_some, Shape, Shape-F, out-Shape, roll-Shape, roll-out-Shape, Value, Program, Method, Signature, cost_of, M, Fit, MayFit, integer_fits, boolean_fits, text_fits, Keeps}
+use Rattle.std.proofs.Common.{◌≡◌}
+use Rattle.typed_runs.proofs.Common.{ℕ, Bool, true, false, not, List, Option, Some, None, sym, ap, subst, ◌∙◌, is_some, Shape, Shape-F, out-Shape, roll-Shape, roll-out-Shape, Value, Program, Method, Signature, cost_of, M, Fit, MayFit, integer_fits, boolean_fits, text_fits, Keeps}
 use Rattle.std.specs.Prelude.{pos}
 use Rattle.epl_values.specs.declared.shape.Shape.TheOpen as layer
 use Rattle.epl_values.specs.declared.shape.Shape.TheVariants as shape

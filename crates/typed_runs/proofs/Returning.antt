@@ -1,5 +1,6 @@
 -- A body that ends with a `return` returns: one induction over statements.
-use Rattle.typed_runs.proofs.Common.{◌≡◌, ℕ, Bool, true, false, ◌&&◌, List, [], ◌∷◌, map, Option, Some, None, refl, sym, ap, subst, ◌∙◌, EventShape, Site, TypedExpr, Stmt, Stmt-F, map-Stmt, roll-Stmt, fold-roll-Stmt, ind-Stmt, Names, Visible, Reading, Ending, ends_with_return, Flow, Next, Broke, Continued, Returned, Died, M, truth_of, Calls, row, stmt_meant, body_of}
+use Rattle.std.proofs.Common.{◌≡◌, ◌&&◌, ◌∷◌}
+use Rattle.typed_runs.proofs.Common.{ℕ, Bool, true, false, List, [], map, Option, Some, None, refl, sym, ap, subst, ◌∙◌, EventShape, Site, TypedExpr, Stmt, Stmt-F, map-Stmt, roll-Stmt, fold-roll-Stmt, ind-Stmt, Names, Visible, Reading, Ending, ends_with_return, Flow, Next, Broke, Continued, Returned, Died, M, truth_of, Calls, row, stmt_meant, body_of}
 use Rattle.typed_program.specs.declared.statement.Stmt.{fold-Stmt}
 use Rattle.typed_program.specs.declared.statement.Stmt.TheOpen as stmt
 use Rattle.typed_program.specs.Courses.{row_of, is_plain, stmt_reading, reading_of, runs, last_ends, ending_step}

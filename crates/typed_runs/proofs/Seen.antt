@@ -1,5 +1,6 @@
 -- What expressions may name, and the calls that they make.
-use Rattle.typed_runs.proofs.Common.{◌≡◌, ℕ, true, List, Some, slice_get, Shape, Value, Program, Action, stands, Names, default_of, Calls, Fit, AllFit, MayFit, globals_in, Keeps}
+use Rattle.std.proofs.Common.{◌≡◌}
+use Rattle.typed_runs.proofs.Common.{ℕ, true, List, Some, slice_get, Shape, Value, Program, Action, stands, Names, default_of, Calls, Fit, AllFit, MayFit, globals_in, Keeps}
 
 -- what may be named: these globals, locals and actions
 abbrev pub named : Program → ℕ → List Shape → List Shape → List Action → Names

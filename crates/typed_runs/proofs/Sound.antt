@@ -1,5 +1,6 @@
 -- Parts that are as they should be keep the shapes of variables, and give values of their shapes.
-use Rattle.typed_runs.proofs.Common.{◌≡◌, ℕ, Bool, true, ◌&&◌, List, [], ◌∷◌, Option, Some, None, refl, sym, ap, subst, AllByRecursion, AllZip, Shape, Value, Program, same, Checked, if_known, is_of, all_of, are_of, agrees, M, all, Meant, values_of, Fit, AllFit, MayFit, same_is, fit_nil, fit_cons, Keeps}
+use Rattle.std.proofs.Common.{◌≡◌, ◌&&◌, ◌∷◌}
+use Rattle.typed_runs.proofs.Common.{ℕ, Bool, true, List, [], Option, Some, None, refl, sym, ap, subst, AllByRecursion, AllZip, Shape, Value, Program, same, Checked, if_known, is_of, all_of, are_of, agrees, M, all, Meant, values_of, Fit, AllFit, MayFit, same_is, fit_nil, fit_cons, Keeps}
 use Rattle.std.proofs.lemmas.Bool.{and_parts}
 use Rattle.typed_runs.proofs.Keeping.{keeps_as, keeps_all}
 use Rattle.typed_runs.proofs.Stepping.{KeepsExpr}

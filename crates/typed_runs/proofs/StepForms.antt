@@ -1,5 +1,6 @@
 -- The forms of steps behind values: fields, elements, entries, and methods.
-use Rattle.typed_runs.proofs.Common.{◌≡◌, ℕ, true, List, [], ◌∷◌, map, Option, Some, None, refl, sym, ap, subst, ◌∙◌, slice_get, option_map, AllZip, slice_get-map, Shape, Shape-F, out-Shape, EventShape, Value, Program, Method, same, Signature, Checked, Stepping, if_known, is_of, are_of, agrees, walks, fields_of, Move, M, all, Meant, Reach, values_of, Fit, AllFit, MayFit, StepsTo, Keeps}
+use Rattle.std.proofs.Common.{◌≡◌, ◌∷◌}
+use Rattle.typed_runs.proofs.Common.{ℕ, true, List, [], map, Option, Some, None, refl, sym, ap, subst, ◌∙◌, slice_get, option_map, AllZip, slice_get-map, Shape, Shape-F, out-Shape, EventShape, Value, Program, Method, same, Signature, Checked, Stepping, if_known, is_of, are_of, agrees, walks, fields_of, Move, M, all, Meant, Reach, values_of, Fit, AllFit, MayFit, StepsTo, Keeps}
 use Rattle.epl_values.specs.declared.shape.Shape.TheOpen as layer
 use Rattle.epl_values.specs.declared.shape.Shape.TheVariants as shape
 use Rattle.epl_values.specs.declared.shape.Field.{Field}

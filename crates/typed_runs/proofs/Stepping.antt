@@ -1,5 +1,6 @@
 -- Steps behind values: what they reach, the places that they lead to, and the changes at their end.
-use Rattle.typed_runs.proofs.Common.{◌≡◌, ℕ, List, [], ◌∷◌, ◌++◌, Option, Some, None, refl, sym, subst, append_assoc, append-nil, Shape, out-Shape, Value, Program, Signature, Move, M, all_behind, all, alter, Meant, Reach, Fit, AllFit, MayFit, StepsTo, LeadsTo, Keeps}
+use Rattle.std.proofs.Common.{◌≡◌, ◌∷◌, ◌++◌}
+use Rattle.typed_runs.proofs.Common.{ℕ, List, [], Option, Some, None, refl, sym, subst, append_assoc, append-nil, Shape, out-Shape, Value, Program, Signature, Move, M, all_behind, all, alter, Meant, Reach, Fit, AllFit, MayFit, StepsTo, LeadsTo, Keeps}
 use Rattle.epl_values.specs.declared.value.Value.TheVariants as value
 use Rattle.typed_program.specs.Methods.{signature}
 use Rattle.body_meaning.specs.Methods.{changed_by}

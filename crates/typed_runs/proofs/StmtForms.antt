@@ -1,5 +1,6 @@
 -- The forms of statements: each keeps the shapes of variables, and what it returns has the shape of the result.
-use Rattle.typed_runs.proofs.Common.{◌≡◌, ℕ, Bool, true, ◌&&◌, ◌==◌, not, List, [], ◌∷◌, map, Option, Some, None, refl, sym, ap, subst, ◌∙◌, slice_get, is_some, AllZip, list_all, eqb-true, Shape, Shape-F, out-Shape, roll-Shape, roll-out-Shape, Value, out-Value, Program, Action, Site, TypedExpr, TypedSuffix, TypedPlace, Variable, Names, if_known, checked, stepping, shape_of, walks, Body, passes, place_so, site_so, loops, goes_to, Flow, Next, Returned, Frame, M, variable_in, Calls, value_of, Fit, AllFit, MayFit, fit_nil, fit_cons, globals_in, Keeps, FrameFits, ListenFits}
+use Rattle.std.proofs.Common.{◌≡◌, ◌&&◌, ◌==◌, ◌∷◌}
+use Rattle.typed_runs.proofs.Common.{ℕ, Bool, true, not, List, [], map, Option, Some, None, refl, sym, ap, subst, ◌∙◌, slice_get, is_some, AllZip, list_all, eqb-true, Shape, Shape-F, out-Shape, roll-Shape, roll-out-Shape, Value, out-Value, Program, Action, Site, TypedExpr, TypedSuffix, TypedPlace, Variable, Names, if_known, checked, stepping, shape_of, walks, Body, passes, place_so, site_so, loops, goes_to, Flow, Next, Returned, Frame, M, variable_in, Calls, value_of, Fit, AllFit, MayFit, fit_nil, fit_cons, globals_in, Keeps, FrameFits, ListenFits}
 use Rattle.epl_values.specs.declared.shape.Shape.TheOpen as layer
 use Rattle.epl_values.specs.declared.shape.Shape.TheVariants as shape
 use Rattle.typed_program.specs.declared.program.Local.{Local}

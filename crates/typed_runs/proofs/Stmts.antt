@@ -1,5 +1,6 @@
 -- Statements that are as they should be keep the shapes of variables: one induction over statements.
-use Rattle.typed_runs.proofs.Common.{◌≡◌, ℕ, zero, suc, Bool, true, ◌&&◌, List, [], ◌∷◌, map, Option, Some, None, sym, subst, ◌∙◌, slice_get, AllByRecursion, list_all, Shape, Program, TypedExpr, Stmt, Stmt-F, map-Stmt, roll-Stmt, fold-roll-Stmt, ind-Stmt, same, stands, if_known, Body, passes, place_so, site_so, loops, goes_to, row_holds, default_of, Flow, Next, Broke, Continued, Died, M, truth_of, Calls, value_of, row, set, stmt_meant, body_of, Fit, same_is, globals_in, Keeps}
+use Rattle.std.proofs.Common.{◌≡◌, ◌&&◌, ◌∷◌}
+use Rattle.typed_runs.proofs.Common.{ℕ, zero, suc, Bool, true, List, [], map, Option, Some, None, sym, subst, ◌∙◌, slice_get, AllByRecursion, list_all, Shape, Program, TypedExpr, Stmt, Stmt-F, map-Stmt, roll-Stmt, fold-roll-Stmt, ind-Stmt, same, stands, if_known, Body, passes, place_so, site_so, loops, goes_to, row_holds, default_of, Flow, Next, Broke, Continued, Died, M, truth_of, Calls, value_of, row, set, stmt_meant, body_of, Fit, same_is, globals_in, Keeps}
 use Rattle.epl_values.specs.declared.shape.Shape.TheVariants as shape
 use Rattle.typed_program.specs.declared.statement.Stmt.TheOpen as stmt
 use Rattle.typed_program.specs.Shapes.{is_event, is_channel}

@@ -1,5 +1,6 @@
 -- Variables of their shapes: what is read from them, and what is stored in them.
-use Rattle.typed_runs.proofs.Common.{◌≡◌, ℕ, List, Option, Some, Result, Ok, Err, refl, sym, subst, slice_get, Shape, Value, Program, Variable, Fault, Frame, Move, variable_in, with_variable, store, alter, set_local, Fit, AllFit, LeadsTo, globals_in, FrameFits}
+use Rattle.std.proofs.Common.{◌≡◌}
+use Rattle.typed_runs.proofs.Common.{ℕ, List, Option, Some, Result, Ok, Err, refl, sym, subst, slice_get, Shape, Value, Program, Variable, Fault, Frame, Move, variable_in, with_variable, store, alter, set_local, Fit, AllFit, LeadsTo, globals_in, FrameFits}
 use Rattle.typed_program.specs.declared.statement.Variable.TheVariants as variable
 use Rattle.body_meaning.specs.Paths.{then_try, or_none, change_variable, stored, altered}
 use Rattle.value_shapes.proofs.Lists.{fit_there, fit_set}

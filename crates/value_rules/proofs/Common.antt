@@ -1,5 +1,5 @@
 -- The names that most files here cite, passed on from one place. Declares nothing.
-pub use Rattle.std.proofs.Common.{Bool, List, None, Some, [], ap, arith, false, inl, inr, length, map, refl, suc, sym, true, zero, ℕ, ◌&&◌, ◌++◌, ◌<◌, ◌∙◌, ◌∷◌, ◌≡◌}
+pub use Rattle.std.proofs.Common.{Bool, List, None, Some, [], ap, arith, false, inl, inr, length, map, refl, suc, sym, true, zero, ℕ, ◌∙◌}
 pub use Rattle.std.proofs.lemmas.Option.{none-some}
 pub use Rattle.std.specs.List.{AllByRecursion, slice_get}
 pub use Rattle.epl_values.specs.declared.shape.EventShape.{EventShape}

@@ -1,6 +1,6 @@
 -- The default of a shape has the shape.
-use Rattle.value_rules.proofs.Common.{◌≡◌, ℕ, zero, suc, ◌<◌, List, [], ◌∷◌, length, map, true, false, Some, None, refl, sym, ap, ◌∙◌, arith, inl, inr, AllByRecursion, slice_get, none-some, Shape, out-Shape, EventShape, Value, default_of, event_fits, fits}
-use Rattle.std.proofs.Common.{pos, Option}
+use Rattle.value_rules.proofs.Common.{ℕ, zero, suc, List, [], length, map, true, false, Some, None, refl, sym, ap, ◌∙◌, arith, inl, inr, AllByRecursion, slice_get, none-some, Shape, out-Shape, EventShape, Value, default_of, event_fits, fits}
+use Rattle.std.proofs.Common.{◌≡◌, ◌<◌, ◌∷◌, pos, Option}
 use Rattle.std.proofs.lemmas.Bool.{eq-eqb}
 use Rattle.std.proofs.lemmas.Option.{slice_get_cases}
 use Rattle.epl_values.specs.declared.shape.Shape.{Shape-F, map-Shape, fold_out-Shape}

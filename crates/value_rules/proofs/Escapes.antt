@@ -1,6 +1,6 @@
 -- A string with its escapes, one byte more at a time.
-use Rattle.value_rules.proofs.Common.{◌≡◌, ℕ, ◌<◌, List, [], ◌∷◌, ◌++◌, length, Some, None, refl, sym, ap, ◌∙◌, arith, inl, inr, none-some}
-use Rattle.std.proofs.Common.{◌+◌, ◌-◌, ◌≤◌, take, drop, get_or, slice_range, append_assoc, append-nil, length-drop, unwrap_or}
+use Rattle.value_rules.proofs.Common.{ℕ, List, [], length, Some, None, refl, sym, ap, ◌∙◌, arith, inl, inr, none-some}
+use Rattle.std.proofs.Common.{◌≡◌, ◌<◌, ◌∷◌, ◌++◌, ◌+◌, ◌-◌, ◌≤◌, take, drop, get_or, slice_range, append_assoc, append-nil, length-drop, unwrap_or}
 use Rattle.std.specs.List.{flat_map}
 use Rattle.std.proofs.lemmas.Bool.{ne_eqb}
 use Rattle.std.proofs.lemmas.Bool.Decides.{leb_tells}

@@ -1,6 +1,6 @@
 -- What shapes a value has, by its kind.
-use Rattle.value_rules.proofs.Common.{◌≡◌, ℕ, Bool, List, map, ◌&&◌, sym, ap, ◌∙◌, Shape, out-Shape, EventShape, Value, Pair, fits, pair_has}
-use Rattle.std.proofs.Common.{ℤ}
+use Rattle.value_rules.proofs.Common.{ℕ, Bool, List, map, sym, ap, ◌∙◌, Shape, out-Shape, EventShape, Value, Pair, fits, pair_has}
+use Rattle.std.proofs.Common.{◌≡◌, ◌&&◌, ℤ}
 use Rattle.epl_values.specs.declared.value.Value.{fold-roll-Value}
 use Rattle.epl_values.specs.declared.value.Value.TheOpen as layer
 use Rattle.epl_values.specs.declared.value.Value.TheVariants as value

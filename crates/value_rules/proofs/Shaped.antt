@@ -1,6 +1,6 @@
 -- Values with shapes by their parts, and lists of values that are read, changed and grown.
-use Rattle.value_rules.proofs.Common.{◌≡◌, ℕ, zero, suc, List, [], ◌∷◌, ◌++◌, length, map, Bool, true, false, ◌&&◌, Some, refl, sym, ap, ◌∙◌, AllByRecursion, slice_get, none-some, Shape, EventShape, Value, Pair, default_of, event_fits, fits, pair_has}
-use Rattle.std.proofs.Common.{◌==◌, slice_set}
+use Rattle.value_rules.proofs.Common.{ℕ, zero, suc, List, [], length, map, Bool, true, false, Some, refl, sym, ap, ◌∙◌, AllByRecursion, slice_get, none-some, Shape, EventShape, Value, Pair, default_of, event_fits, fits, pair_has}
+use Rattle.std.proofs.Common.{◌≡◌, ◌∷◌, ◌++◌, ◌&&◌, ◌==◌, slice_set}
 use Rattle.std.specs.List.{list_all}
 use Rattle.std.proofs.lemmas.Bool.{false≢true}
 use Rattle.std.proofs.lemmas.List.Folds.{list_all-map}

@@ -1,6 +1,6 @@
 -- When a value has a shape.
-use Rattle.value_rules.specs.Common.{List, [], ◌∷◌, Bool, true, false, ◌==◌, map, Option, Some, None, slice_get, Shape, Shape-F, EventShape, Value, Value-F, fold-Value, Pair, Pair-F, fold-Pair}
-use Rattle.std.specs.Prelude.{◌&&◌}
+use Rattle.value_rules.specs.Common.{List, [], Bool, true, false, map, Option, Some, None, slice_get, Shape, Shape-F, EventShape, Value, Value-F, fold-Value, Pair, Pair-F, fold-Pair}
+use Rattle.std.specs.Prelude.{◌∷◌, ◌==◌, ◌&&◌}
 use Rattle.std.specs.List.{list_all}
 use Rattle.epl_values.specs.declared.shape.Shape.{out-Shape}
 use Rattle.epl_values.specs.declared.shape.Shape.TheOpen as shape

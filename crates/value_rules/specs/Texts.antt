@@ -1,6 +1,6 @@
 -- How a value is written.
-use Rattle.value_rules.specs.Common.{ℕ, List, [], ◌∷◌, Bool, true, false, ◌==◌, Option, Some, None, slice_get, EventShape, Value, Value-F, fold-Value, Pair, Pair-F, fold-Pair}
-use Rattle.std.specs.Prelude.{◌++◌, if◌then◌else◌, unwrap_or, codes}
+use Rattle.value_rules.specs.Common.{ℕ, List, [], Bool, true, false, Option, Some, None, slice_get, EventShape, Value, Value-F, fold-Value, Pair, Pair-F, fold-Pair}
+use Rattle.std.specs.Prelude.{◌∷◌, ◌==◌, ◌++◌, if◌then◌else◌, unwrap_or, codes}
 use Rattle.std.specs.Fmt.{signed_decimal}
 use Rattle.std.specs.List.{flat_map}
 use Rattle.epl_values.specs.declared.value.Value.TheOpen as layer

@@ -1,6 +1,7 @@
 -- Methods that change their object leave it a value of its shape.
-use Rattle.value_shapes.proofs.Common.{◌≡◌, ℕ, List, [], ◌∷◌, ◌++◌, length, Bool, true, false, Option, Some, None, Ok, Err, sym, subst, true≢false, if◌then◌else◌, false≢true, none-some, same_Some, Shape, Shape-F, out-Shape, roll-Shape, roll-out-Shape, EventShape, Value, Value-F, out-Value, Pair, Fault, integer_of, natural, at_key, without_entry, all_joined, ok_same, Fit, AllFit}
-use Rattle.std.specs.Prelude.{remove, nat_lt, is_some}
+use Rattle.std.proofs.Common.{◌≡◌, ◌∷◌, ◌++◌}
+use Rattle.value_shapes.proofs.Common.{ℕ, List, [], length, Bool, true, false, Option, Some, None, Ok, Err, sym, subst, true≢false, false≢true, none-some, same_Some, Shape, Shape-F, out-Shape, roll-Shape, roll-out-Shape, EventShape, Value, Value-F, out-Value, Pair, Fault, integer_of, natural, at_key, without_entry, all_joined, ok_same, Fit, AllFit}
+use Rattle.std.specs.Prelude.{if◌then◌else◌, remove, nat_lt, is_some}
 use Rattle.epl_values.specs.declared.shape.Shape.TheOpen as shape_layer
 use Rattle.epl_values.specs.declared.shape.Shape.TheVariants as shape
 use Rattle.epl_values.specs.declared.value.Value.TheOpen as layer

@@ -1,9 +1,9 @@
 -- The names that most files here cite, passed on from one place. Declares nothing.
-pub use Rattle.std.proofs.Common.{Bool, Err, List, None, Ok, Option, Some, [], ap, ap₂, false, length, map, refl, subst, suc, sym, true, true≢false, zero, ℕ, ℤ, ◌++◌, ◌∙◌, ◌∷◌, ◌≡◌}
+pub use Rattle.std.proofs.Common.{Bool, Err, List, None, Ok, Option, Some, [], ap, ap₂, false, length, map, refl, subst, suc, sym, true, true≢false, zero, ℕ, ℤ, ◌∙◌}
 pub use Rattle.std.proofs.lemmas.Bool.{and_from, and_parts, eq-eqb, eqb-true, false≢true}
 pub use Rattle.std.proofs.lemmas.Option.{none-some, same_Some}
 pub use Rattle.std.specs.List.{AllByRecursion, list_all}
-pub use Rattle.std.specs.Prelude.{Result, if◌then◌else◌, slice_get}
+pub use Rattle.std.specs.Prelude.{Result, slice_get}
 pub use Rattle.action_host.specs.declared.host.Fault.{Fault}
 pub use Rattle.body_meaning.specs.Paths.{at_key, is_key, part, part_in, with_entry, with_part, with_part_in, without_entry}
 pub use Rattle.body_meaning.specs.Values.{integer_of, natural, pairs_of}

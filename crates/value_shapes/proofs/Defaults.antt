@@ -1,6 +1,6 @@
 -- The defaults of shapes that stand in a typed program fit them.
-use Rattle.value_shapes.proofs.Common.{◌≡◌, ℕ, zero, suc, List, [], ◌∷◌, length, map, Bool, true, refl, sym, ap, ◌∙◌, subst, list_all, and_parts, Shape, Shape-F, out-Shape, roll-Shape, map-Shape, fold-roll-Shape, ind-Shape, EventShape, Value, fields_of, AreOrderly, all_joined, Fit, AllFit}
-use Rattle.std.proofs.Common.{◌<◌, flat_map, ◌&&◌, not}
+use Rattle.value_shapes.proofs.Common.{ℕ, zero, suc, List, [], length, map, Bool, true, refl, sym, ap, ◌∙◌, subst, list_all, and_parts, Shape, Shape-F, out-Shape, roll-Shape, map-Shape, fold-roll-Shape, ind-Shape, EventShape, Value, fields_of, AreOrderly, all_joined, Fit, AllFit}
+use Rattle.std.proofs.Common.{◌≡◌, ◌∷◌, ◌<◌, flat_map, ◌&&◌, not}
 use Rattle.std.specs.List.{slice_get}
 use Rattle.std.proofs.lemmas.Bool.{ltb-true}
 use Rattle.epl_values.specs.declared.shape.Shape.{fold-Shape, fold_out-Shape}

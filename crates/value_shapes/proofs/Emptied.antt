@@ -1,5 +1,6 @@
 -- A value that is emptied of listeners has the shapes that it had.
-use Rattle.value_shapes.proofs.Common.{◌≡◌, ℕ, List, [], ◌∷◌, map, refl, sym, ap, ap₂, ◌∙◌, subst, Shape, Shape-F, out-Shape, EventShape, Value, Value-F, roll-Value, map-Value, fold-roll-Value, Pair, PairFit, all_fit, fits, pair_fits, pair_has, AreOrderly, Fit, AllFit}
+use Rattle.std.proofs.Common.{◌≡◌, ◌∷◌}
+use Rattle.value_shapes.proofs.Common.{ℕ, List, [], map, refl, sym, ap, ap₂, ◌∙◌, subst, Shape, Shape-F, out-Shape, EventShape, Value, Value-F, roll-Value, map-Value, fold-roll-Value, Pair, PairFit, all_fit, fits, pair_fits, pair_has, AreOrderly, Fit, AllFit}
 use Rattle.epl_values.specs.declared.shape.Shape.TheOpen as shape_layer
 use Rattle.epl_values.specs.declared.value.Value.{ind-Value}
 use Rattle.epl_values.specs.declared.value.Value.TheOpen as layer

@@ -1,5 +1,6 @@
 -- Entries that fit, with one put in or taken out.
-use Rattle.value_shapes.proofs.Common.{◌≡◌, List, [], ◌∷◌, Bool, true, false, refl, AllByRecursion, Shape, EventShape, Value, Pair, out-Pair, KeysAscend, order_of, is_key, with_entry, without_entry, Fit}
+use Rattle.std.proofs.Common.{◌≡◌, ◌∷◌}
+use Rattle.value_shapes.proofs.Common.{List, [], Bool, true, false, refl, AllByRecursion, Shape, EventShape, Value, Pair, out-Pair, KeysAscend, order_of, is_key, with_entry, without_entry, Fit}
 use Rattle.std.specs.declared.cmp.Ordering.{Ordering}
 use Rattle.std.specs.declared.cmp.Ordering.TheVariants.{Less, Equal, Greater}
 use Rattle.value_steps.proofs.Ascending.{ascend_with}

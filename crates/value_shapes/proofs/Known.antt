@@ -1,5 +1,6 @@
 -- Values of shapes that may be known.
-use Rattle.value_shapes.proofs.Common.{◌≡◌, List, [], ◌∷◌, map, Option, Some, sym, subst, false≢true, Shape, EventShape, Value, Fit, AllFit}
+use Rattle.std.proofs.Common.{◌≡◌, ◌∷◌}
+use Rattle.value_shapes.proofs.Common.{List, [], map, Option, Some, sym, subst, false≢true, Shape, EventShape, Value, Fit, AllFit}
 use Rattle.value_shapes.specs.Fits.{AllMayFit, MayFit}
 use Rattle.value_shapes.proofs.Lists.{fit_cons, fit_head, fit_nil, fit_tail}
 

@@ -1,6 +1,6 @@
 -- Values that fit shapes, layer by layer: what is in them, and what is made of parts that fit.
-use Rattle.value_shapes.proofs.Common.{◌≡◌, ℕ, List, [], ◌∷◌, map, true, Option, Some, None, refl, sym, ap, ◌∙◌, subst, true≢false, slice_get, AllByRecursion, list_all, and_parts, and_from, eqb-true, eq-eqb, Shape, Shape-F, out-Shape, roll-Shape, out-roll-Shape, EventShape, Value, Value-F, out-Value, roll-Value, map-Value, fold-roll-Value, Pair, KeysAscend, PairFit, all_fit, fits, pair_fits, pair_has, fields_of, AreOrderly, Fit, AllFit}
-use Rattle.std.proofs.Common.{◌==◌}
+use Rattle.value_shapes.proofs.Common.{ℕ, List, [], map, true, Option, Some, None, refl, sym, ap, ◌∙◌, subst, true≢false, slice_get, AllByRecursion, list_all, and_parts, and_from, eqb-true, eq-eqb, Shape, Shape-F, out-Shape, roll-Shape, out-roll-Shape, EventShape, Value, Value-F, out-Value, roll-Value, map-Value, fold-roll-Value, Pair, KeysAscend, PairFit, all_fit, fits, pair_fits, pair_has, fields_of, AreOrderly, Fit, AllFit}
+use Rattle.std.proofs.Common.{◌≡◌, ◌∷◌, ◌==◌}
 use Rattle.epl_values.specs.declared.shape.Shape.TheOpen as shape_layer
 use Rattle.epl_values.specs.declared.value.Value.{fold_out-Value}
 use Rattle.epl_values.specs.declared.value.Value.TheOpen as layer

@@ -1,6 +1,6 @@
 -- Lists of values that fit their shapes: read, changed, grown and taken apart.
-use Rattle.value_shapes.proofs.Common.{◌≡◌, ℕ, zero, suc, List, [], ◌∷◌, ◌++◌, length, Some, refl, subst, and_parts, and_from, false≢true, none-some, same_Some, Shape, EventShape, Value, all_get, all_set, Fit, AllFit}
-use Rattle.std.proofs.Common.{slice_set}
+use Rattle.value_shapes.proofs.Common.{ℕ, zero, suc, List, [], length, Some, refl, subst, and_parts, and_from, false≢true, none-some, same_Some, Shape, EventShape, Value, all_get, all_set, Fit, AllFit}
+use Rattle.std.proofs.Common.{◌≡◌, ◌∷◌, ◌++◌, slice_set}
 use Rattle.std.specs.List.{slice_get}
 use Rattle.value_rules.specs.Shapes.{has, shapes_have}
 use Rattle.value_rules.proofs.Shaped.{have-at, have-length, have-set}

@@ -1,5 +1,6 @@
 -- Values of each kind that fit: what is made of parts that fit, and the parts of what fits.
-use Rattle.value_shapes.proofs.Common.{◌≡◌, ℕ, ℤ, List, map, Bool, Some, refl, sym, subst, true≢false, slice_get, AllByRecursion, Shape, Shape-F, roll-Shape, EventShape, Value, Value-F, out-Value, roll-Value, Pair, KeysAscend, fields_of, pairs_of, Fit, AllFit}
+use Rattle.std.proofs.Common.{◌≡◌}
+use Rattle.value_shapes.proofs.Common.{ℕ, ℤ, List, map, Bool, Some, refl, sym, subst, true≢false, slice_get, AllByRecursion, Shape, Shape-F, roll-Shape, EventShape, Value, Value-F, out-Value, roll-Value, Pair, KeysAscend, fields_of, pairs_of, Fit, AllFit}
 use Rattle.epl_values.specs.declared.shape.Shape.TheOpen as shape_layer
 use Rattle.epl_values.specs.declared.shape.Shape.TheVariants as shape
 use Rattle.epl_values.specs.declared.value.Value.TheOpen as layer

@@ -1,5 +1,6 @@
 -- A part of a value fits the shape that its step leads to, and the value keeps its shape with another such part.
-use Rattle.value_shapes.proofs.Common.{◌≡◌, ℕ, ℤ, List, [], ◌∷◌, map, Bool, true, false, Option, Some, None, Ok, refl, sym, ◌∙◌, subst, slice_get, Shape, Shape-F, out-Shape, roll-Shape, roll-out-Shape, EventShape, Value, Value-F, out-Value, Pair, KeysAscend, Fault, Move, natural, at_key, is_key, part, part_in, with_entry, with_part, with_part_in, fields_of, all_get, all_set, Fit, StepsTo}
+use Rattle.std.proofs.Common.{◌≡◌, ◌∷◌}
+use Rattle.value_shapes.proofs.Common.{ℕ, ℤ, List, [], map, Bool, true, false, Option, Some, None, Ok, refl, sym, ◌∙◌, subst, slice_get, Shape, Shape-F, out-Shape, roll-Shape, roll-out-Shape, EventShape, Value, Value-F, out-Value, Pair, KeysAscend, Fault, Move, natural, at_key, is_key, part, part_in, with_entry, with_part, with_part_in, fields_of, all_get, all_set, Fit, StepsTo}
 use Rattle.std.specs.Prelude.{slice_set}
 use Rattle.std.specs.Option.{option_and_then}
 use Rattle.epl_values.specs.declared.shape.Shape.TheOpen as shape_layer

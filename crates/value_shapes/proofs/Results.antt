@@ -1,6 +1,7 @@
 -- What operators and methods give has its shape.
-use Rattle.value_shapes.proofs.Common.{◌≡◌, ℕ, ℤ, List, [], ◌∷◌, length, map, Bool, true, false, Ok, Err, subst, Result, if◌then◌else◌, Shape, EventShape, Value, Pair, out-Pair, order_of, Fault, integer_of, pairs_of, ok_same, Fit}
-use Rattle.std.specs.Prelude.{nat_le, neg_ℤ}
+use Rattle.std.proofs.Common.{◌≡◌, ◌∷◌}
+use Rattle.value_shapes.proofs.Common.{ℕ, ℤ, List, [], length, map, Bool, true, false, Ok, Err, subst, Result, Shape, EventShape, Value, Pair, out-Pair, order_of, Fault, integer_of, pairs_of, ok_same, Fit}
+use Rattle.std.specs.Prelude.{if◌then◌else◌, nat_le, neg_ℤ}
 use Rattle.epl_values.specs.declared.shape.Shape.TheVariants as shape
 use Rattle.epl_values.specs.declared.value.Value.TheVariants as value
 use Rattle.epl_tree.specs.declared.expression.Comparison.{Comparison}

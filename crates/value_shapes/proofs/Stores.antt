@@ -1,5 +1,6 @@
 -- A value that is changed at the end of a path keeps its shape.
-use Rattle.value_shapes.proofs.Common.{◌≡◌, List, [], ◌∷◌, Ok, Err, refl, sym, subst, Result, Shape, out-Shape, EventShape, Value, Value-F, out-Value, Pair, Fault, Move, part, part_in, with_part, with_part_in, ok_same, Fit, StepsTo}
+use Rattle.std.proofs.Common.{◌≡◌, ◌∷◌}
+use Rattle.value_shapes.proofs.Common.{List, [], Ok, Err, refl, sym, subst, Result, Shape, out-Shape, EventShape, Value, Value-F, out-Value, Pair, Fault, Move, part, part_in, with_part, with_part_in, ok_same, Fit, StepsTo}
 use Rattle.epl_values.specs.declared.value.Value.TheOpen as layer
 use Rattle.body_meaning.specs.declared.run.Move.TheVariants as move
 use Rattle.body_meaning.specs.Paths.{altered, put, put_in, stored, then_try}

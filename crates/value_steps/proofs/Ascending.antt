@@ -1,5 +1,6 @@
 -- Entries whose keys ascend: where a key stands, and what stays in order.
-use Rattle.value_steps.proofs.Common.{◌≡◌, ℕ, zero, suc, ◌+◌, ◌<◌, ◌≤◌, Bool, true, false, List, [], ◌∷◌, length, map, Option, Some, None, Ok, Err, refl, sym, ap, ◌∙◌, arith, slice_get, slice_set, remove, Result, Ordering, Less, Equal, Greater, AllByRecursion, Value, Pair, out-Pair, order_of, scalar_of, AscendFrom, KeysAscend, at_key, is_key, entry, entry_value, with_entry, without_entry}
+use Rattle.std.proofs.Common.{◌≡◌, ◌+◌, ◌<◌, ◌≤◌, ◌∷◌}
+use Rattle.value_steps.proofs.Common.{ℕ, zero, suc, Bool, true, false, List, [], length, map, Option, Some, None, Ok, Err, refl, sym, ap, ◌∙◌, arith, slice_get, slice_set, remove, Result, Ordering, Less, Equal, Greater, AllByRecursion, Value, Pair, out-Pair, order_of, scalar_of, AscendFrom, KeysAscend, at_key, is_key, entry, entry_value, with_entry, without_entry}
 use Rattle.std.specs.Prelude.{slice_index_or, insert}
 use Rattle.std.specs.Option.{option_map}
 use Rattle.std.specs.List.{AllWithin}

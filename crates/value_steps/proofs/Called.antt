@@ -1,6 +1,7 @@
 -- What methods make of values in order is in order.
-use Rattle.value_steps.proofs.Common.{◌≡◌, ℕ, zero, suc, Bool, true, false, List, [], ◌∷◌, ◌++◌, map, Option, Some, None, Ok, Err, refl, sym, ap, ◌∙◌, subst, ℤ, Result, slice_get, remove, is_some, nat_lt, if◌then◌else◌, AllByRecursion, Less, Value, Value-F, out-Value, roll-Value, Pair, out-Pair, AscendFrom, KeysAscend, order_of, Method, Fault, integer_of, natural, at_key, is_key, with_entry, without_entry, added_in, appended_in, changed_by, cleared_in, first, removed_in, removed_key, removed_place, second, AreOrderly, IsOrderlyPair, AreOrderlyPairs, KeysInOrder}
-use Rattle.std.specs.Prelude.{length}
+use Rattle.std.proofs.Common.{◌≡◌, ◌∷◌, ◌++◌}
+use Rattle.value_steps.proofs.Common.{ℕ, zero, suc, Bool, true, false, List, [], map, Option, Some, None, Ok, Err, refl, sym, ap, ◌∙◌, subst, ℤ, Result, slice_get, remove, is_some, nat_lt, AllByRecursion, Less, Value, Value-F, out-Value, roll-Value, Pair, out-Pair, AscendFrom, KeysAscend, order_of, Method, Fault, integer_of, natural, at_key, is_key, with_entry, without_entry, added_in, appended_in, changed_by, cleared_in, first, removed_in, removed_key, removed_place, second, AreOrderly, IsOrderlyPair, AreOrderlyPairs, KeysInOrder}
+use Rattle.std.specs.Prelude.{if◌then◌else◌, length}
 use Rattle.epl_values.specs.declared.value.Value.TheOpen as layer
 use Rattle.epl_values.specs.declared.value.Value.TheVariants as value
 use Rattle.typed_program.specs.declared.expression.Method.TheVariants as method

@@ -1,9 +1,9 @@
 -- The names that most files here cite, passed on from one place. Declares nothing.
-pub use Rattle.std.proofs.Common.{Bool, Err, List, None, Ok, Option, Some, [], add-one, ap, arith, drop, drop-cons, false, get_or, length, map, refl, subst, suc, sym, take, true, zero, ℕ, ◌++◌, ◌+◌, ◌<◌, ◌∙◌, ◌∷◌, ◌≡◌, ◌≤◌}
+pub use Rattle.std.proofs.Common.{Bool, Err, List, None, Ok, Option, Some, [], add-one, ap, arith, drop, drop-cons, false, get_or, length, map, refl, subst, suc, sym, take, true, zero, ℕ, ◌∙◌}
 pub use Rattle.std.proofs.Math.Seq.{take-suc}
 pub use Rattle.std.specs.List.{AllByRecursion}
 pub use Rattle.std.specs.Option.{option_and_then}
-pub use Rattle.std.specs.Prelude.{Result, if◌then◌else◌, is_some, nat_lt, remove, slice_get, slice_set, ℤ}
+pub use Rattle.std.specs.Prelude.{Result, is_some, nat_lt, remove, slice_get, slice_set, ℤ}
 pub use Rattle.std.specs.declared.cmp.Ordering.{Ordering}
 pub use Rattle.std.specs.declared.cmp.Ordering.TheVariants.{Equal, Greater, Less}
 pub use Rattle.action_host.specs.declared.host.Fault.{Fault}

@@ -1,6 +1,6 @@
 -- Characters counted, and cut off, byte by byte.
-use Rattle.value_steps.proofs.Common.{◌≡◌, ℕ, zero, suc, ◌+◌, ◌<◌, ◌≤◌, Bool, true, false, List, [], ◌∷◌, ◌++◌, length, get_or, take, drop, refl, sym, ap, ◌∙◌, arith, add-one, drop-cons, take-suc}
-use Rattle.std.proofs.Common.{◌-◌, append_assoc}
+use Rattle.value_steps.proofs.Common.{ℕ, zero, suc, Bool, true, false, List, [], length, get_or, take, drop, refl, sym, ap, ◌∙◌, arith, add-one, drop-cons, take-suc}
+use Rattle.std.proofs.Common.{◌≡◌, ◌+◌, ◌<◌, ◌≤◌, ◌∷◌, ◌++◌, ◌-◌, append_assoc}
 use Rattle.std.proofs.lemmas.List.{append-nil}
 use Rattle.std.specs.Prelude.{◌==◌}
 use Rattle.std.proofs.lemmas.Bool.Decides.{nat_tests}

@@ -1,5 +1,6 @@
 -- Emptied values: their keys are in the order that they had.
-use Rattle.value_steps.proofs.Common.{◌≡◌, ℕ, zero, suc, ◌+◌, ◌<◌, List, [], ◌∷◌, ◌++◌, map, take, get_or, refl, sym, ap, ◌∙◌, subst, add-one, length, take-suc, AllByRecursion, Less, Value, Value-F, out-Value, roll-Value, roll-out-Value, map-Value, Pair, out-Pair, roll-Pair, roll-out-Pair, Scalar, AscendFrom, KeysAscend, order_of, scalar_cmp, scalar_of, emptied, emptied_step, entry, emptied_entry}
+use Rattle.std.proofs.Common.{◌≡◌, ◌+◌, ◌<◌, ◌∷◌, ◌++◌}
+use Rattle.value_steps.proofs.Common.{ℕ, zero, suc, List, [], map, take, get_or, refl, sym, ap, ◌∙◌, subst, add-one, length, take-suc, AllByRecursion, Less, Value, Value-F, out-Value, roll-Value, roll-out-Value, map-Value, Pair, out-Pair, roll-Pair, roll-out-Pair, Scalar, AscendFrom, KeysAscend, order_of, scalar_cmp, scalar_of, emptied, emptied_step, entry, emptied_entry}
 use Rattle.std.proofs.lemmas.List.{map-append}
 use Rattle.epl_values.specs.declared.value.Value.{fold-roll-Value}
 use Rattle.epl_values.specs.declared.value.Value.TheOpen as layer

@@ -1,5 +1,6 @@
 -- A path is followed step by step.
-use Rattle.value_steps.proofs.Common.{◌≡◌, ℕ, ◌+◌, ◌<◌, List, ◌∷◌, length, get_or, drop, Ok, sym, ap, ◌∙◌, add-one, drop-cons, Value, Move, part, then_try}
+use Rattle.std.proofs.Common.{◌≡◌, ◌+◌, ◌<◌, ◌∷◌}
+use Rattle.value_steps.proofs.Common.{ℕ, List, length, get_or, drop, Ok, sym, ap, ◌∙◌, add-one, drop-cons, Value, Move, part, then_try}
 use Rattle.value_steps.specs.Parts.{followed}
 
 pub follow_step : (moves : List Move) (i : ℕ) (m : Move) (v x start : Value) → i < length moves → m ≡ get_or moves i m → Ok x ≡ part m v → followed (drop i moves) v ≡ followed moves start → followed (drop (i + 1) moves) x ≡ followed moves start

@@ -1,6 +1,7 @@
 -- Changes keep values in order.
-use Rattle.value_steps.proofs.Common.{◌≡◌, ℕ, zero, suc, Bool, true, false, List, [], ◌∷◌, ◌++◌, map, Option, Some, None, Ok, Err, refl, sym, ap, ◌∙◌, subst, ℤ, Result, slice_get, slice_set, remove, is_some, nat_lt, if◌then◌else◌, option_and_then, AllByRecursion, Ordering, Less, Equal, Greater, Value, Value-F, out-Value, roll-Value, Pair, out-Pair, roll-Pair, KeysAscend, order_of, Method, Fault, Move, integer_of, natural, altered, at_key, entry, entry_value, is_key, or_fault, part, part_in, put, put_in, set_at, stored, then_try, with_entry, with_part, with_part_in, without_entry, added_in, appended_in, changed_by, cleared_in, first, removed_in, removed_key, removed_place, second, Trouble, Leaves, AreOrderly, IsOrderlyPair, AreOrderlyPairs, KeysInOrder}
-use Rattle.std.specs.Prelude.{length}
+use Rattle.std.proofs.Common.{◌≡◌, ◌∷◌, ◌++◌}
+use Rattle.value_steps.proofs.Common.{ℕ, zero, suc, Bool, true, false, List, [], map, Option, Some, None, Ok, Err, refl, sym, ap, ◌∙◌, subst, ℤ, Result, slice_get, slice_set, remove, is_some, nat_lt, option_and_then, AllByRecursion, Ordering, Less, Equal, Greater, Value, Value-F, out-Value, roll-Value, Pair, out-Pair, roll-Pair, KeysAscend, order_of, Method, Fault, Move, integer_of, natural, altered, at_key, entry, entry_value, is_key, or_fault, part, part_in, put, put_in, set_at, stored, then_try, with_entry, with_part, with_part_in, without_entry, added_in, appended_in, changed_by, cleared_in, first, removed_in, removed_key, removed_place, second, Trouble, Leaves, AreOrderly, IsOrderlyPair, AreOrderlyPairs, KeysInOrder}
+use Rattle.std.specs.Prelude.{if◌then◌else◌, length}
 use Rattle.epl_values.specs.declared.value.Value.TheOpen as layer
 use Rattle.epl_values.specs.declared.value.Value.TheVariants as value
 use Rattle.typed_program.specs.declared.expression.Method.TheVariants as method

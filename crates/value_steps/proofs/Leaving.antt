@@ -1,5 +1,6 @@
 -- What a change of a part leaves of the whole.
-use Rattle.value_steps.proofs.Common.{◌≡◌, ℕ, zero, suc, ◌<◌, List, [], ◌∷◌, ◌++◌, map, Option, Some, None, Ok, Err, refl, sym, ap, ◌∙◌, subst, arith, ℤ, Result, slice_get, slice_set, option_and_then, Value, Value-F, out-Value, roll-Value, Pair, out-Pair, roll-Pair, roll-out-Pair, KeysAscend, Fault, Move, natural, altered, at_key, entry, entry_value, or_fault, part, part_in, put, put_in, set_at, stored, then_try, with_entry, with_part, with_part_in, Trouble, Leaves, entry_altered, item_altered, place_altered, with_item, with_place}
+use Rattle.std.proofs.Common.{◌≡◌, ◌<◌, ◌∷◌, ◌++◌}
+use Rattle.value_steps.proofs.Common.{ℕ, zero, suc, List, [], map, Option, Some, None, Ok, Err, refl, sym, ap, ◌∙◌, subst, arith, ℤ, Result, slice_get, slice_set, option_and_then, Value, Value-F, out-Value, roll-Value, Pair, out-Pair, roll-Pair, roll-out-Pair, KeysAscend, Fault, Move, natural, altered, at_key, entry, entry_value, or_fault, part, part_in, put, put_in, set_at, stored, then_try, with_entry, with_part, with_part_in, Trouble, Leaves, entry_altered, item_altered, place_altered, with_item, with_place}
 use Rattle.epl_values.specs.declared.value.Value.TheOpen as layer
 use Rattle.epl_values.specs.declared.value.Value.TheVariants as value
 use Rattle.action_host.specs.declared.host.Fault.TheVariants as fault

@@ -1,5 +1,7 @@
 -- What changes leave, with what stands in each place told by an equation.
-use Rattle.value_steps.proofs.Common.{◌≡◌, ℕ, List, [], ◌∷◌, ◌++◌, Option, Some, None, Ok, Err, refl, sym, ap, ◌∙◌, subst, ℤ, Result, slice_get, slice_set, remove, is_some, if◌then◌else◌, Value, Pair, out-Pair, KeysAscend, Fault, Move, natural, altered, entry, put, stored, with_entry, without_entry, Trouble, Leaves, entry_altered, item_altered, place_altered, with_item, with_place}
+use Rattle.std.proofs.Common.{◌≡◌, ◌∷◌, ◌++◌}
+use Rattle.std.specs.Prelude.{if◌then◌else◌}
+use Rattle.value_steps.proofs.Common.{ℕ, List, [], Option, Some, None, Ok, Err, refl, sym, ap, ◌∙◌, subst, ℤ, Result, slice_get, slice_set, remove, is_some, Value, Pair, out-Pair, KeysAscend, Fault, Move, natural, altered, entry, put, stored, with_entry, without_entry, Trouble, Leaves, entry_altered, item_altered, place_altered, with_item, with_place}
 use Rattle.epl_values.specs.declared.value.Value.TheVariants as value
 use Rattle.action_host.specs.declared.host.Fault.TheVariants as fault
 use Rattle.body_meaning.specs.declared.run.Move.TheVariants as move

@@ -1,5 +1,6 @@
 -- Values in order: their parts, and what is made of parts in order.
-use Rattle.value_steps.proofs.Common.{◌≡◌, ℕ, zero, suc, List, [], ◌∷◌, ◌++◌, map, Some, refl, sym, ap, ◌∙◌, subst, AllByRecursion, Value, Value-F, out-Value, roll-Value, roll-out-Value, map-Value, Pair-F, Pair, out-Pair, roll-Pair, roll-out-Pair, map-Pair, KeysAscend, AreOrderly, IsOrderlyPair, AreOrderlyPairs, KeysInOrder}
+use Rattle.std.proofs.Common.{◌≡◌, ◌∷◌, ◌++◌}
+use Rattle.value_steps.proofs.Common.{ℕ, zero, suc, List, [], map, Some, refl, sym, ap, ◌∙◌, subst, AllByRecursion, Value, Value-F, out-Value, roll-Value, roll-out-Value, map-Value, Pair-F, Pair, out-Pair, roll-Pair, roll-out-Pair, map-Pair, KeysAscend, AreOrderly, IsOrderlyPair, AreOrderlyPairs, KeysInOrder}
 use Rattle.epl_values.specs.declared.value.Value.{every-Value, every_here-Value, every_held-Value, every_made-Value}
 use Rattle.epl_values.specs.declared.value.Value.TheOpen as layer
 use Rattle.epl_values.specs.declared.value.Value.TheVariants as value

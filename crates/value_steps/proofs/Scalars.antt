@@ -1,5 +1,6 @@
 -- The order of scalars is that of their kind, and less and greater hold within a kind alone.
-use Rattle.value_steps.proofs.Common.{◌≡◌, ℕ, Bool, true, false, List, refl, sym, ap, ◌∙◌, arith, Ordering, Less, Equal, Greater, Scalar, scalar_cmp}
+use Rattle.std.proofs.Common.{◌≡◌}
+use Rattle.value_steps.proofs.Common.{ℕ, Bool, true, false, List, refl, sym, ap, ◌∙◌, arith, Ordering, Less, Equal, Greater, Scalar, scalar_cmp}
 use Rattle.std.specs.Cmp.{IsTotalOrder}
 use Rattle.std.specs.Ordering.{nat_cmp, int_cmp, ordering_reverse}
 use Rattle.std.proofs.lemmas.Cmp.{int_cmp_total, nat_list_cmp_total}

@@ -1,5 +1,6 @@
 -- A value in order that is emptied is in order.
-use Rattle.value_steps.proofs.Common.{◌≡◌, List, [], ◌∷◌, map, refl, sym, ap, ◌∙◌, subst, Value, Value-F, out-Value, roll-Value, map-Value, Pair-F, Pair, out-Pair, roll-Pair, map-Pair, emptied, emptied_step, emptied_entry, AreOrderly, IsOrderlyPair, AreOrderlyPairs, KeysInOrder}
+use Rattle.std.proofs.Common.{◌≡◌, ◌∷◌}
+use Rattle.value_steps.proofs.Common.{List, [], map, refl, sym, ap, ◌∙◌, subst, Value, Value-F, out-Value, roll-Value, map-Value, Pair-F, Pair, out-Pair, roll-Pair, map-Pair, emptied, emptied_step, emptied_entry, AreOrderly, IsOrderlyPair, AreOrderlyPairs, KeysInOrder}
 use Rattle.epl_values.specs.declared.value.Value.{out-roll-Value, ind-Value}
 use Rattle.epl_values.specs.declared.value.Value.TheOpen as layer
 use Rattle.value_steps.specs.Orderly.{IsOrderly}

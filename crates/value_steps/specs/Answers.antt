@@ -1,5 +1,6 @@
 -- Answers that may also be want of memory.
-use Rattle.value_steps.specs.Common.{◌≡◌, Result, Ok, Err, Fault}
+use Rattle.std.specs.Prelude.{◌≡◌}
+use Rattle.value_steps.specs.Common.{Result, Ok, Err, Fault}
 use Rattle.value_steps.specs.declared.trouble.Trouble.{Trouble}
 use Rattle.value_steps.specs.declared.trouble.Trouble.TheVariants as trouble
 

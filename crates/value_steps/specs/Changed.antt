@@ -1,6 +1,6 @@
 -- What a change in place leaves.
-use Rattle.value_steps.specs.Common.{◌≡◌, ℕ, List, Result, Ok, Err, Bool, if◌then◌else◌, Value, Pair, Fault, Move, then_try}
-use Rattle.std.specs.Prelude.{ℤ, Option, Some, None, is_some, nat_lt, length, remove, slice_get, slice_set}
+use Rattle.value_steps.specs.Common.{ℕ, List, Result, Ok, Err, Bool, Value, Pair, Fault, Move, then_try}
+use Rattle.std.specs.Prelude.{◌≡◌, if◌then◌else◌, ℤ, Option, Some, None, is_some, nat_lt, length, remove, slice_get, slice_set}
 use Rattle.action_host.specs.declared.host.Fault.TheVariants as fault
 use Rattle.body_meaning.specs.Methods.{changed_by}
 use Rattle.body_meaning.specs.Paths.{altered, at_key, or_fault, put, with_entry, without_entry}

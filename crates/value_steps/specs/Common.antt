@@ -1,5 +1,5 @@
 -- The names that most files here cite, passed on from one place. Declares nothing.
-pub use Rattle.std.specs.Prelude.{Bool, Err, List, Ok, Result, [], if◌then◌else◌, ℕ, ◌∷◌, ◌≡◌}
+pub use Rattle.std.specs.Prelude.{Bool, Err, List, Ok, Result, [], ℕ}
 pub use Rattle.action_host.specs.declared.host.Fault.{Fault}
 pub use Rattle.body_meaning.specs.Paths.{then_try}
 pub use Rattle.body_meaning.specs.declared.run.Move.{Move}

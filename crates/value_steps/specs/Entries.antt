@@ -1,6 +1,6 @@
 -- Where the key of an entry stands, or would stand, in a dictionary.
-use Rattle.value_steps.specs.Common.{ℕ, Bool, List, [], ◌∷◌, Result, Ok, Err, if◌then◌else◌, Value, Pair}
-use Rattle.std.specs.Prelude.{zero, suc}
+use Rattle.value_steps.specs.Common.{ℕ, Bool, List, [], Result, Ok, Err, Value, Pair}
+use Rattle.std.specs.Prelude.{◌∷◌, if◌then◌else◌, zero, suc}
 use Rattle.epl_values.specs.declared.value.Pair.{out-Pair}
 use Rattle.epl_values.specs.Order.{order_of}
 use Rattle.body_meaning.specs.Values.{is_less}

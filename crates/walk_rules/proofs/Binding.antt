@@ -1,5 +1,6 @@
 -- One call behind another, choices and effects.
-use Rattle.walk_rules.proofs.Common.{◌≡◌, ℕ, ◌+◌, Bool, true, false, List, [], ◌∷◌, ◌++◌, Result, Ok, Err, refl, sym, ap, subst, ◌∙◌, arith, append_assoc, Contains, Value, Fault, Effect, Scene, Told, Frame, Halt, Failed, State, Did, M, then_do, choose, Stop, Halted, Memory, state_of, outcome_of, did_of, standing, Ran, Passes, Does, Walks}
+use Rattle.std.proofs.Common.{◌≡◌, ◌+◌, ◌∷◌, ◌++◌}
+use Rattle.walk_rules.proofs.Common.{ℕ, Bool, true, false, List, [], Result, Ok, Err, refl, sym, ap, subst, ◌∙◌, arith, append_assoc, Contains, Value, Fault, Effect, Scene, Told, Frame, Halt, Failed, State, Did, M, then_do, choose, Stop, Halted, Memory, state_of, outcome_of, did_of, standing, Ran, Passes, Does, Walks}
 use Rattle.std.specs.Prelude.{if◌then◌else◌, nat_lt, ◌==◌}
 use Rattle.epl_values.specs.declared.value.Value.TheVariants as value
 use Rattle.action_host.specs.declared.host.Fault.TheVariants as fault

@@ -1,5 +1,6 @@
 -- Calls, one level at a time, and locals of their own.
-use Rattle.walk_rules.proofs.Common.{◌≡◌, ℕ, zero, suc, ◌-◌, ◌<◌, List, Ok, Err, refl, ap, arith, slice_get, Value, Told, Flow, Frame, M, Stop, Walks}
+use Rattle.std.proofs.Common.{◌≡◌, ◌-◌, ◌<◌}
+use Rattle.walk_rules.proofs.Common.{ℕ, zero, suc, List, Ok, Err, refl, ap, arith, slice_get, Value, Told, Flow, Frame, M, Stop, Walks}
 use Rattle.typed_program.specs.declared.program.Program.{Program}
 use Rattle.action_host.specs.declared.host.Fault.TheVariants as fault
 use Rattle.body_meaning.specs.Runs.{◌>>=◌, ◌>>◌, pure, charge, given}

@@ -1,5 +1,5 @@
 -- The names that most files here cite, passed on from one place. Declares nothing.
-pub use Rattle.std.proofs.Common.{Bool, Err, List, None, Ok, Option, Result, Some, [], ap, append_assoc, arith, drop, false, get_or, length, map, refl, subst, suc, sym, true, zero, ℕ, ⊎_elim, ◌++◌, ◌+◌, ◌-◌, ◌<◌, ◌∙◌, ◌∷◌, ◌≡◌, ◌≤◌}
+pub use Rattle.std.proofs.Common.{Bool, Err, List, None, Ok, Option, Result, Some, [], ap, append_assoc, arith, drop, false, get_or, length, map, refl, subst, suc, sym, true, zero, ℕ, ⊎_elim, ◌∙◌}
 pub use Rattle.std.proofs.lemmas.List.{drop_all}
 pub use Rattle.std.specs.List.{Contains}
 pub use Rattle.std.specs.Prelude.{slice_get}

@@ -1,5 +1,6 @@
 -- What each form of expression means, as an equation.
-use Rattle.walk_rules.proofs.Common.{◌≡◌, ℕ, Bool, List, [], ◌∷◌, map, refl, ap, ◌∙◌, EventShape, Value, TypedExpr, M, all, truth_of, Calls, Reach, Pairing, Linking, value_of, or_from, xor_from, and_from, links_from, entries_behind}
+use Rattle.std.proofs.Common.{◌≡◌, ◌∷◌}
+use Rattle.walk_rules.proofs.Common.{ℕ, Bool, List, [], map, refl, ap, ◌∙◌, EventShape, Value, TypedExpr, M, all, truth_of, Calls, Reach, Pairing, Linking, value_of, or_from, xor_from, and_from, links_from, entries_behind}
 use Rattle.std.specs.Prelude.{ℤ, not}
 use Rattle.epl_values.specs.declared.value.Value.TheVariants as value
 use Rattle.epl_tree.specs.declared.expression.Comparison.{Comparison}

@@ -1,5 +1,6 @@
 -- The variables that a run passes.
-use Rattle.walk_rules.proofs.Common.{◌≡◌, List, [], ◌∷◌, ◌++◌, refl, sym, subst, ⊎_elim, arith, Contains, Frame, Did, Outcome, Went, Ended, M, then_do, Halt, State, standing, did_of, outcome_of}
+use Rattle.std.proofs.Common.{◌≡◌, ◌∷◌, ◌++◌}
+use Rattle.walk_rules.proofs.Common.{List, [], refl, sym, subst, ⊎_elim, arith, Contains, Frame, Did, Outcome, Went, Ended, M, then_do, Halt, State, standing, did_of, outcome_of}
 use Rattle.std.proofs.lemmas.List.Elements.{Contains-append_left, Contains-append_right, Contains-append_cases, Contains-push_cases}
 use Rattle.body_meaning.specs.Runs.{and_then, behind}
 use Rattle.std.specs.Prelude.{Result, Ok, Err}

@@ -1,5 +1,6 @@
 -- What holds of the variables that a run passes holds where a call leaves them.
-use Rattle.walk_rules.proofs.Common.{ℕ, List, [], ◌∷◌, ◌++◌, Result, Ok, Err, sym, ap, subst, ◌∙◌, Told, Frame, Halt, Did, M, Stop, Halted, Memory, state_of, did_of, standing, Ran, Passes, Does, Walks}
+use Rattle.std.proofs.Common.{◌∷◌, ◌++◌}
+use Rattle.walk_rules.proofs.Common.{ℕ, List, [], Result, Ok, Err, sym, ap, subst, ◌∙◌, Told, Frame, Halt, Did, M, Stop, Halted, Memory, state_of, did_of, standing, Ran, Passes, Does, Walks}
 use Rattle.std.specs.List.{All}
 use Rattle.std.proofs.lemmas.List.Elements.{All-cons, All-contains}
 use Rattle.walk_rules.proofs.Frames.{contains_standing, did_outcome}

@@ -1,6 +1,6 @@
 -- A run that is a part of the way, and loops over items.
-use Rattle.walk_rules.proofs.Common.{◌≡◌, ℕ, ◌+◌, ◌≤◌, ◌<◌, suc, true, false, List, [], ◌∷◌, ◌++◌, length, map, drop, get_or, Option, Some, Result, Ok, Err, refl, sym, ap, subst, ◌∙◌, arith, append_assoc, drop_all, Contains, slice_get, Effect, Told, Flow, Next, Frame, Halt, State, Did, nothing, Outcome, Went, Ended, M, then_do, choose, row, unless, Stop, Halted, Memory, state_of, did_of, standing, Ran, Passes, Does, Walks, Leads}
-use Rattle.std.proofs.Common.{add-one}
+use Rattle.walk_rules.proofs.Common.{ℕ, suc, true, false, List, [], length, map, drop, get_or, Option, Some, Result, Ok, Err, refl, sym, ap, subst, ◌∙◌, arith, append_assoc, drop_all, Contains, slice_get, Effect, Told, Flow, Next, Frame, Halt, State, Did, nothing, Outcome, Went, Ended, M, then_do, choose, row, unless, Stop, Halted, Memory, state_of, did_of, standing, Ran, Passes, Does, Walks, Leads}
+use Rattle.std.proofs.Common.{◌≡◌, ◌+◌, ◌≤◌, ◌<◌, ◌∷◌, ◌++◌, add-one}
 use Rattle.std.proofs.Math.Seq.{drop-cons}
 use Rattle.std.proofs.lemmas.Option.{slice_get-get_or}
 use Rattle.body_meaning.specs.Runs.{and_then, behind, ◌>>=◌, ◌>>◌, pure, all_behind}

@@ -1,5 +1,6 @@
 -- Loops that test, and loops over values.
-use Rattle.walk_rules.proofs.Common.{◌≡◌, ℕ, ◌+◌, ◌≤◌, ◌<◌, zero, suc, true, false, List, [], length, drop, get_or, Some, None, Ok, Err, refl, sym, ap, ◌∙◌, arith, drop_all, Value, Told, Flow, Next, Frame, nothing, M, choose, set_local, truth_of, unless, Stop, state_of, Walks, Leads}
+use Rattle.std.proofs.Common.{◌≡◌, ◌+◌, ◌≤◌, ◌<◌}
+use Rattle.walk_rules.proofs.Common.{ℕ, zero, suc, true, false, List, [], length, drop, get_or, Some, None, Ok, Err, refl, sym, ap, ◌∙◌, arith, drop_all, Value, Told, Flow, Next, Frame, nothing, M, choose, set_local, truth_of, unless, Stop, state_of, Walks, Leads}
 use Rattle.std.proofs.Math.ListN.{length-set}
 use Rattle.std.proofs.lemmas.List.{drop-set-lt}
 use Rattle.std.specs.Prelude.{slice_set}

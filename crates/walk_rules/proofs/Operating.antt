@@ -1,5 +1,6 @@
 -- Loops over operands, links, entries and steps.
-use Rattle.walk_rules.proofs.Common.{◌≡◌, ℕ, ◌+◌, ◌≤◌, ◌<◌, true, false, List, [], ◌∷◌, length, map, drop, get_or, Ok, Err, refl, sym, ap, ◌∙◌, Value, Pair, Told, Frame, M, choose, truth_of, Reach, Pairing, Linking, or_from, and_from, xor_from, links_from, entries_behind, Stop, Walks, Leads}
+use Rattle.std.proofs.Common.{◌≡◌, ◌+◌, ◌≤◌, ◌<◌, ◌∷◌}
+use Rattle.walk_rules.proofs.Common.{ℕ, true, false, List, [], length, map, drop, get_or, Ok, Err, refl, sym, ap, ◌∙◌, Value, Pair, Told, Frame, M, choose, truth_of, Reach, Pairing, Linking, or_from, and_from, xor_from, links_from, entries_behind, Stop, Walks, Leads}
 use Rattle.epl_values.specs.declared.value.Value.TheVariants as value
 use Rattle.body_meaning.specs.Runs.{◌>>=◌, pure}
 use Rattle.body_meaning.specs.Values.{differ}

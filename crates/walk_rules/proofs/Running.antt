@@ -1,6 +1,6 @@
 -- What single steps mean, and that a call does them.
-use Rattle.walk_rules.proofs.Common.{◌≡◌, ℕ, Bool, true, false, List, [], ◌∷◌, ◌++◌, ◌-◌, ◌+◌, Result, Ok, Err, refl, sym, ap, subst, ◌∙◌, ⊎_elim, arith, Contains, Fault, Scene, Told, Frame, Halt, Failed, State, nothing, Went, Ended, M, Stop, Halted, Memory, state_of, outcome_of, did_of, Ran, Passes, Does, Walks}
-use Rattle.std.proofs.Common.{◌^◌, min}
+use Rattle.walk_rules.proofs.Common.{ℕ, Bool, true, false, List, [], Result, Ok, Err, refl, sym, ap, subst, ◌∙◌, ⊎_elim, arith, Contains, Fault, Scene, Told, Frame, Halt, Failed, State, nothing, Went, Ended, M, Stop, Halted, Memory, state_of, outcome_of, did_of, Ran, Passes, Does, Walks}
+use Rattle.std.proofs.Common.{◌≡◌, ◌∷◌, ◌++◌, ◌-◌, ◌+◌, ◌^◌, min}
 use Rattle.std.proofs.lemmas.Bool.{cases_lt, leb-true, lt-leb}
 use Rattle.std.proofs.Math.Nat.{min-eq_left, min-eq_right}
 use Rattle.std.specs.Prelude.{nat_le, IsErrAnd}

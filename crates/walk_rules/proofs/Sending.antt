@@ -1,5 +1,6 @@
 -- What `send` and `context` mean, by their arguments.
-use Rattle.walk_rules.proofs.Common.{◌≡◌, ℕ, List, [], ◌∷◌, length, Some, Err, refl, sym, ap, ◌∙◌, arith, slice_get, Value, Value-F, out-Value, roll-Value, roll-out-Value, Pair}
+use Rattle.std.proofs.Common.{◌≡◌, ◌∷◌}
+use Rattle.walk_rules.proofs.Common.{ℕ, List, [], length, Some, Err, refl, sym, ap, ◌∙◌, arith, slice_get, Value, Value-F, out-Value, roll-Value, roll-out-Value, Pair}
 use Rattle.epl_values.specs.declared.value.Value.TheOpen as layer
 use Rattle.epl_values.specs.declared.value.Value.TheVariants as value
 use Rattle.action_host.specs.declared.host.Fault.TheVariants as fault

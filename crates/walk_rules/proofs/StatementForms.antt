@@ -1,5 +1,6 @@
 -- What each form of statement means, as an equation.
-use Rattle.walk_rules.proofs.Common.{◌≡◌, ℕ, List, map, Option, None, Some, sym, ap, ◌∙◌, EventShape, TypedExpr, TypedPlace, Flow, M, choose, truth_of, Calls, value_of, row, done, set}
+use Rattle.std.proofs.Common.{◌≡◌}
+use Rattle.walk_rules.proofs.Common.{ℕ, List, map, Option, None, Some, sym, ap, ◌∙◌, EventShape, TypedExpr, TypedPlace, Flow, M, choose, truth_of, Calls, value_of, row, done, set}
 use Rattle.std.specs.Prelude.{option_map}
 use Rattle.epl_values.specs.declared.shape.Shape.{Shape}
 use Rattle.epl_tree.specs.declared.statement.Level.{Level}

@@ -1,5 +1,6 @@
 -- Statements and methods, put together from their parts.
-use Rattle.walk_rules.proofs.Common.{◌≡◌, ℕ, List, Result, Ok, Err, refl, sym, ap, ◌∙◌, Value, Value-F, out-Value, roll-Value, roll-out-Value, Pair, TypedPlace, Fault, Told, Flow, Next, Frame, Failed, M, all, set_local, done, set, Stop, Halted, Walks}
+use Rattle.std.proofs.Common.{◌≡◌}
+use Rattle.walk_rules.proofs.Common.{ℕ, List, Result, Ok, Err, refl, sym, ap, ◌∙◌, Value, Value-F, out-Value, roll-Value, roll-out-Value, Pair, TypedPlace, Fault, Told, Flow, Next, Frame, Failed, M, all, set_local, done, set, Stop, Halted, Walks}
 use Rattle.epl_values.specs.declared.value.Value.TheOpen as layer
 use Rattle.epl_values.specs.declared.value.Value.TheVariants as value
 use Rattle.value_rules.specs.Costs.{cost_of}

@@ -1,5 +1,5 @@
 -- The names that most files here cite, passed on from one place. Declares nothing.
-pub use Rattle.std.proofs.Common.{Bool, List, None, Some, [], ap, arith, cond, false, get_or, length, map, nat_lt, refl, slice_set, subst, suc, sym, true, zero, ℕ, ◌++◌, ◌+◌, ◌<◌, ◌∙◌, ◌∷◌, ◌≡◌, ◌≤◌, ◌⊎◌}
+pub use Rattle.std.proofs.Common.{Bool, List, None, Some, [], ap, arith, cond, false, get_or, length, map, nat_lt, refl, slice_set, subst, suc, sym, true, zero, ℕ, ◌∙◌}
 pub use Rattle.std.specs.List.{AllByRecursion}
 pub use Rattle.actor_theory.specs.Joined.{slots_only}
 pub use Rattle.actor_theory.specs.Language.{Sent, number_after, stamped}

@@ -1,6 +1,6 @@
 -- The record at the end.
-use Rattle.world_serial.proofs.Common.{◌≡◌, ℕ, zero, suc, ◌+◌, ◌<◌, ◌≤◌, List, [], ◌∷◌, ◌++◌, Bool, true, false, cond, refl, sym, ◌∙◌, ap, subst, arith, map, length, Entry, Cell, queue_at, Program, Context, Cargo, Item, contexts_of, reader_of, World, moment_of, IsBooted, FinishesOn}
-use Rattle.std.proofs.Common.{not, ◌==◌, drop, append_assoc}
+use Rattle.world_serial.proofs.Common.{ℕ, zero, suc, List, [], Bool, true, false, cond, refl, sym, ◌∙◌, ap, subst, arith, map, length, Entry, Cell, queue_at, Program, Context, Cargo, Item, contexts_of, reader_of, World, moment_of, IsBooted, FinishesOn}
+use Rattle.std.proofs.Common.{◌≡◌, ◌+◌, ◌<◌, ◌≤◌, ◌∷◌, ◌++◌, not, ◌==◌, drop, append_assoc}
 use Rattle.std.proofs.lemmas.Bool.{eqb-true}
 use Rattle.actor_theory.specs.Language.{by}
 use Rattle.actor_theory.specs.Order.{ordered}

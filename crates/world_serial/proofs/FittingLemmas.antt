@@ -1,6 +1,6 @@
 -- The parts fit, from the start on and behind each turn.
-use Rattle.world_serial.proofs.Common.{◌≡◌, ℕ, zero, suc, ◌+◌, ◌<◌, ◌≤◌, List, [], ◌∷◌, ◌++◌, Some, None, refl, sym, ◌∙◌, ap, subst, arith, map, length, get_or, slice_set, Value, Entry, Sent, number_after, stamped, Cell, ReaderCell, cell_after, empty_queues, fresh_cells, queue_at, Program, Cargo, Context, Item, Event, contexts_of, loads_below, ItemsFit, after_first, first_entry, item_entry, World, IsFitting, Rests, first_of, rest_of}
-use Rattle.std.proofs.Common.{◌-◌, ◌^◌, All}
+use Rattle.world_serial.proofs.Common.{ℕ, zero, suc, List, [], Some, None, refl, sym, ◌∙◌, ap, subst, arith, map, length, get_or, slice_set, Value, Entry, Sent, number_after, stamped, Cell, ReaderCell, cell_after, empty_queues, fresh_cells, queue_at, Program, Cargo, Context, Item, Event, contexts_of, loads_below, ItemsFit, after_first, first_entry, item_entry, World, IsFitting, Rests, first_of, rest_of}
+use Rattle.std.proofs.Common.{◌≡◌, ◌+◌, ◌<◌, ◌≤◌, ◌∷◌, ◌++◌, ◌-◌, ◌^◌, All}
 use Rattle.std.proofs.lemmas.Option.{slice_get-get_or}
 use Rattle.std.proofs.lemmas.List.Elements.{All-nil, All-cons, All-head, All-tail, All-get_or, All-set, All-push, All-map}
 use Rattle.epl_values.specs.declared.value.Value.{out-Value}

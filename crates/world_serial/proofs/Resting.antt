@@ -1,5 +1,6 @@
 -- Handlings leave no more fuel, and nothing that is routed.
-use Rattle.world_serial.proofs.Common.{◌≡◌, ℕ, zero, suc, ◌+◌, ◌<◌, ◌≤◌, List, [], ◌∷◌, length, nat_lt, refl, ap, arith, Value, Program, Cargo, Context, Rests}
+use Rattle.std.proofs.Common.{◌≡◌, ◌+◌, ◌<◌, ◌≤◌, ◌∷◌}
+use Rattle.world_serial.proofs.Common.{ℕ, zero, suc, List, [], length, nat_lt, refl, ap, arith, Value, Program, Cargo, Context, Rests}
 use Rattle.std.proofs.lemmas.Bool.{cond_both}
 use Rattle.context_meaning.specs.Contexts.{spend, unless_spent}
 use Rattle.context_meaning.specs.Turns.{drained, event_handled, first_handled, front_handled, handle, handled, handled_whole, last_number, rowed}

@@ -1,6 +1,6 @@
 -- Rounds of the parts.
-use Rattle.world_serial.proofs.Common.{◌≡◌, ℕ, suc, ◌+◌, ◌≤◌, List, [], ◌∷◌, Bool, true, false, cond, nat_lt, ◌⊎◌, sym, ◌∙◌, ap, subst, arith, Sent, Program, Cargo, Item, Event, contexts_of, reader_of, item_sends, World, IsFitting, actors_of, moment_of, FinishesOn}
-use Rattle.std.proofs.Common.{◌||◌, filter}
+use Rattle.world_serial.proofs.Common.{ℕ, suc, List, [], Bool, true, false, cond, nat_lt, sym, ◌∙◌, ap, subst, arith, Sent, Program, Cargo, Item, Event, contexts_of, reader_of, item_sends, World, IsFitting, actors_of, moment_of, FinishesOn}
+use Rattle.std.proofs.Common.{◌≡◌, ◌+◌, ◌≤◌, ◌∷◌, ◌⊎◌, ◌||◌, filter}
 use Rattle.actor_theory.specs.World.{World as Moment, IsQuiet}
 use Rattle.actor_theory.specs.Potential.{IsMeasure, total, entry_cost}
 use Rattle.actor_theory.specs.Measure.{IsJoinedLog}

@@ -1,5 +1,6 @@
 -- Sends to the main context, and queues that stay.
-use Rattle.world_serial.proofs.Common.{◌≡◌, ℕ, zero, suc, ◌<◌, List, [], ◌∷◌, ◌++◌, refl, sym, ◌∙◌, ap, arith, map, length, slice_set, AllByRecursion, Entry, Sent, stamped, slots_only, queue_at, delivered}
+use Rattle.std.proofs.Common.{◌≡◌, ◌<◌, ◌∷◌, ◌++◌}
+use Rattle.world_serial.proofs.Common.{ℕ, zero, suc, List, [], refl, sym, ◌∙◌, ap, arith, map, length, slice_set, AllByRecursion, Entry, Sent, stamped, slots_only, queue_at, delivered}
 use Rattle.std.proofs.lemmas.List.{append-nil}
 use Rattle.std.proofs.lemmas.Bool.{ne_eqb, eq-eqb, lt-ltb}
 use Rattle.actor_theory.specs.Language.{mail}

@@ -1,5 +1,6 @@
 -- The parts at the start, and after boot.
-use Rattle.world_serial.proofs.Common.{◌≡◌, ℕ, zero, suc, ◌+◌, ◌<◌, List, [], ◌∷◌, ◌++◌, false, refl, sym, ◌∙◌, ap, subst, ◌⊎◌, arith, map, length, get_or, slice_set, AllByRecursion, Entry, Sent, stamped, Cell, ReaderCell, world_of, Stand, empty_queues, fresh_cells, Program, Context, Cargo, Item, ItemsFit, contexts_of, reader_of, loads_below, World, actors_of, moment_of, FinishesOn, IsBooted}
+use Rattle.std.proofs.Common.{◌≡◌, ◌+◌, ◌<◌, ◌∷◌, ◌++◌, ◌⊎◌}
+use Rattle.world_serial.proofs.Common.{ℕ, zero, suc, List, [], false, refl, sym, ◌∙◌, ap, subst, arith, map, length, get_or, slice_set, AllByRecursion, Entry, Sent, stamped, Cell, ReaderCell, world_of, Stand, empty_queues, fresh_cells, Program, Context, Cargo, Item, ItemsFit, contexts_of, reader_of, loads_below, World, actors_of, moment_of, FinishesOn, IsBooted}
 use Rattle.actor_theory.specs.World.{World as Moment, IsFinished}
 use Rattle.actor_theory.specs.Machine.{fresh_reader, loaded_queues, without_items}
 use Rattle.actor_theory.proofs.Beginning.{fresh-stand}

@@ -1,5 +1,6 @@
 -- The turns of slots and reader.
-use Rattle.world_serial.proofs.Common.{◌≡◌, ℕ, ◌+◌, ◌<◌, List, [], ◌∷◌, ◌++◌, Bool, true, false, Some, None, refl, sym, ◌∙◌, ap, subst, arith, length, get_or, slice_set, Entry, number_after, slots_only, Cell, ReaderCell, queue_at, world_of, Stand, cell_after, delivered, Program, Context, Cargo, Item, Event, contexts_of, reader_of, item_sends, first_entry, after_first, item_entry, first_of, rest_of, actors_of}
+use Rattle.std.proofs.Common.{◌≡◌, ◌+◌, ◌<◌, ◌∷◌, ◌++◌}
+use Rattle.world_serial.proofs.Common.{ℕ, List, [], Bool, true, false, Some, None, refl, sym, ◌∙◌, ap, subst, arith, length, get_or, slice_set, Entry, number_after, slots_only, Cell, ReaderCell, queue_at, world_of, Stand, cell_after, delivered, Program, Context, Cargo, Item, Event, contexts_of, reader_of, item_sends, first_entry, after_first, item_entry, first_of, rest_of, actors_of}
 use Rattle.std.proofs.lemmas.Option.{slice_get_read}
 use Rattle.std.proofs.lemmas.List.{get_or_default}
 use Rattle.actor_theory.specs.World.{turn_of}

@@ -1,5 +1,5 @@
 -- The names that most files here cite, passed on from one place. Declares nothing.
-pub use Rattle.std.specs.Prelude.{List, [], suc, ℕ, ◌≡◌}
+pub use Rattle.std.specs.Prelude.{List, [], suc, ℕ}
 pub use Rattle.actor_theory.specs.Machine.{Cell}
 pub use Rattle.actor_theory.specs.declared.entry.Entry.{Entry}
 pub use Rattle.context_meaning.specs.declared.cargo.Cargo.{Cargo}

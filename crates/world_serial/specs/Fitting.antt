@@ -1,6 +1,6 @@
 -- Parts that fit a typed program.
-use Rattle.world_serial.specs.Common.{◌≡◌, List, [], Entry, Cell, Program, Cargo, Context, Item}
-use Rattle.std.specs.Prelude.{◌<◌, ◌-◌, ◌^◌}
+use Rattle.world_serial.specs.Common.{List, [], Entry, Cell, Program, Cargo, Context, Item}
+use Rattle.std.specs.Prelude.{◌≡◌, ◌<◌, ◌-◌, ◌^◌}
 use Rattle.std.specs.List.{All}
 use Rattle.context_meaning.specs.Fits.{ContextFits}
 use Rattle.naive_meaning.specs.Fits.{EntriesFit, ItemsFit}

@@ -1,6 +1,6 @@
 -- The run of contexts and reader on one thread.
-use Rattle.world_serial.specs.Common.{◌≡◌, ℕ, suc, List, [], Entry, Program, Context, Cargo, Item}
-use Rattle.std.specs.Prelude.{Bool, false, ◌⊎◌}
+use Rattle.world_serial.specs.Common.{ℕ, suc, List, [], Entry, Program, Context, Cargo, Item}
+use Rattle.std.specs.Prelude.{◌≡◌, Bool, false, ◌⊎◌}
 use Rattle.actor_theory.specs.Language.{Language}
 use Rattle.actor_theory.specs.World.{World as Moment, turn_of, IsFinished}
 use Rattle.actor_theory.specs.Joined.{joined}

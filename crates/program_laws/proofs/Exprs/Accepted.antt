@@ -1,5 +1,6 @@
 -- An expression in which no fault is found has its shape; so have places that are assigned, and arguments.
-use Rattle.program_laws.proofs.Common.{◌≡◌, Bool, true, List, [], ◌∷◌, map, length, Some, refl, ◌∙◌, list_all, AllByRecursion, and_from, and_parts, length-map, bytes_eq-Decides, bytes_eq, Shape, Expr, Suffix, Place, TypedExpr, stands, Names, holds, shape_of, have, Scope, ParamHead, Table, Demand, Wish, Exactly, param_wants, typed_arguments, seen, name_found, place_found, typed_of, expr_found, Knows, KnowsTable, KnowsNamed, wish_stands, wished, answers, any_of, expr_names, suffix_names, place_names}
+use Rattle.std.proofs.Common.{◌≡◌, ◌∷◌}
+use Rattle.program_laws.proofs.Common.{Bool, true, List, [], map, length, Some, refl, ◌∙◌, list_all, AllByRecursion, and_from, and_parts, length-map, bytes_eq-Decides, bytes_eq, Shape, Expr, Suffix, Place, TypedExpr, stands, Names, holds, shape_of, have, Scope, ParamHead, Table, Demand, Wish, Exactly, param_wants, typed_arguments, seen, name_found, place_found, typed_of, expr_found, Knows, KnowsTable, KnowsNamed, wish_stands, wished, answers, any_of, expr_names, suffix_names, place_names}
 use Rattle.typed_program.specs.Expressions.{has}
 use Rattle.expr_rules.specs.Postfix.{leads}
 use Rattle.expr_check.specs.Expressions.{part_of, step_of}

@@ -1,5 +1,6 @@
 -- Two shapes that are told to be the same are one.
-use Rattle.program_laws.proofs.Common.{◌≡◌, Bool, true, refl, sym, ap, ap₂, subst, ◌∙◌, true≢false, and_parts, and_from, eqb-true, eq-eqb, Shape, Shape-F, map-Shape, out-Shape, roll-Shape, roll-out-Shape, same}
+use Rattle.std.proofs.Common.{◌≡◌}
+use Rattle.program_laws.proofs.Common.{Bool, true, refl, sym, ap, ap₂, subst, ◌∙◌, true≢false, and_parts, and_from, eqb-true, eq-eqb, Shape, Shape-F, map-Shape, out-Shape, roll-Shape, roll-out-Shape, same}
 use Rattle.epl_values.specs.declared.shape.Shape.{out-roll-Shape, fold-roll-Shape, ind-Shape}
 use Rattle.epl_values.specs.declared.shape.Shape.TheOpen as layer
 use Rattle.typed_program.specs.Shapes.{same_layer}

@@ -1,5 +1,6 @@
 -- What an expression answers at its place, where no fault is found.
-use Rattle.program_laws.proofs.Common.{◌≡◌, ℕ, Bool, true, false, ◌&&◌, ◌||◌, not, [], ◌∷◌, ◌++◌, Option, Some, None, refl, sym, ap, ◌∙◌, true≢false, if◌then◌else◌, and_parts, and_from, Spot, Shape, roll-TypedExpr, TypedNode, same, stands, Names, checked, holds, shape_of, may_stand, is_of, Gives, Root, Judged, Demand, Wish, Statement, Value, Exactly, key_codes, misfit_codes, path_codes, given_codes, place_codes, change_code, astray_code, shape_given, judged, Part, codes_of, wish_stands, wished}
+use Rattle.std.proofs.Common.{◌≡◌, ◌&&◌, ◌||◌, ◌∷◌, ◌++◌, if◌then◌else◌}
+use Rattle.program_laws.proofs.Common.{ℕ, Bool, true, false, not, [], Option, Some, None, refl, sym, ap, ◌∙◌, true≢false, and_parts, and_from, Spot, Shape, roll-TypedExpr, TypedNode, same, stands, Names, checked, holds, shape_of, may_stand, is_of, Gives, Root, Judged, Demand, Wish, Statement, Value, Exactly, key_codes, misfit_codes, path_codes, given_codes, place_codes, change_code, astray_code, shape_given, judged, Part, codes_of, wish_stands, wished}
 use Rattle.typed_program.specs.Shapes.{is_scalar}
 use Rattle.expr_rules.specs.declared.placed.Gives.TheVariants as gives
 use Rattle.expr_rules.specs.Places.{fits, is_key, void_codes, placed}

@@ -1,5 +1,6 @@
 -- Arguments have the shapes that are asked, where as many stand there.
-use Rattle.program_laws.proofs.Common.{◌≡◌, ℕ, zero, suc, ◌+◌, ◌≤◌, ◌==◌, Bool, true, List, [], ◌∷◌, ◌++◌, map, length, take, Option, Some, None, slice_get, refl, sym, ap, subst, ◌∙◌, true≢false, arith, list_all, AllByRecursion, and_parts, and_from, eqb-true, length_push, length-map, Shape, TypedExpr, stands, Names, checked, is_of, are_of, have, ParamHead, Paths, Arguments, Judged, Wish, Value, Exactly, asked_by, like, next_wish, argument_of, argument_found, arguments_found, no_arguments, count_code, param_wants, call_paths, items_of, typed_arguments, Part, wish_stands}
+use Rattle.std.proofs.Common.{◌≡◌, ◌+◌, ◌≤◌, ◌==◌, ◌∷◌, ◌++◌}
+use Rattle.program_laws.proofs.Common.{ℕ, zero, suc, Bool, true, List, [], map, length, take, Option, Some, None, slice_get, refl, sym, ap, subst, ◌∙◌, true≢false, arith, list_all, AllByRecursion, and_parts, and_from, eqb-true, length_push, length-map, Shape, TypedExpr, stands, Names, checked, is_of, are_of, have, ParamHead, Paths, Arguments, Judged, Wish, Value, Exactly, asked_by, like, next_wish, argument_of, argument_found, arguments_found, no_arguments, count_code, param_wants, call_paths, items_of, typed_arguments, Part, wish_stands}
 use Rattle.expr_rules.specs.Calls.{wish_at}
 use Rattle.expr_rules.specs.Then.{and_then, through}
 use Rattle.program_laws.proofs.Exprs.Sure.{Sure, sure_then, sure_sound, sure_through}

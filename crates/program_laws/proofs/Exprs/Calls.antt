@@ -1,5 +1,6 @@
 -- Calls answer, where their arguments do and what they name is known.
-use Rattle.program_laws.proofs.Common.{◌≡◌, ℕ, ◌<◌, ◌≤◌, ◌==◌, Bool, true, false, ◌&&◌, ◌||◌, List, [], ◌∷◌, map, length, take, min, Option, Some, None, slice_get, refl, sym, ap, subst, ◌∙◌, if◌then◌else◌, inl, inr, ◌⊎◌, arith, list_all, AllByRecursion, bytes_eq, and_from, eqb-true, eq-eqb, lt-ltb, or_cases, or_left, or_right, length-map, list_all-map, position-Some, Spot, Shape, Field, EventShape, TypedExpr, TypedNode, Action, same, stands, Names, checked, are_of, if_known, agrees, Scope, Table, ActionHead, event_of, Gives, Arguments, Demand, fields_at, param_wants, count_code, action_named, event_plan, action_plan, missing_plan, plan_of, callee_node, callee_code, plan_found, call_found, context_code, context_start, context_found, arguments_found, Part, lower, KnowsTable, KnowsAction, KnowsType, gives_result, result_stands}
+use Rattle.std.proofs.Common.{◌≡◌, ◌<◌, ◌≤◌, ◌==◌, ◌&&◌, ◌||◌, ◌∷◌, if◌then◌else◌, ◌⊎◌}
+use Rattle.program_laws.proofs.Common.{ℕ, Bool, true, false, List, [], map, length, take, min, Option, Some, None, slice_get, refl, sym, ap, subst, ◌∙◌, inl, inr, arith, list_all, AllByRecursion, bytes_eq, and_from, eqb-true, eq-eqb, lt-ltb, or_cases, or_left, or_right, length-map, list_all-map, position-Some, Spot, Shape, Field, EventShape, TypedExpr, TypedNode, Action, same, stands, Names, checked, are_of, if_known, agrees, Scope, Table, ActionHead, event_of, Gives, Arguments, Demand, fields_at, param_wants, count_code, action_named, event_plan, action_plan, missing_plan, plan_of, callee_node, callee_code, plan_found, call_found, context_code, context_start, context_found, arguments_found, Part, lower, KnowsTable, KnowsAction, KnowsType, gives_result, result_stands}
 use Rattle.epl_values.specs.declared.shape.Shape.TheVariants as shape
 use Rattle.typed_program.specs.declared.expression.TypedNode.TheVariants as made
 use Rattle.typed_program.specs.declared.expression.TypedNode.TheOpen as typed

@@ -1,5 +1,6 @@
 -- A chain of operands that answer answers.
-use Rattle.program_laws.proofs.Common.{◌≡◌, Bool, true, List, [], ◌∷◌, ◌++◌, map, Some, refl, ap, ◌∙◌, inl, inr, ◌⊎◌, list_all, AllByRecursion, and_parts, and_from, or_left, or_right, Spot, Shape, Operator, TypedExpr, TypedLink, roll-TypedLink, same, Names, Checked, checked, is_of, is_add, Sort, Logic, Level, Chain, LinkChain, Judged, Demand, Value, operand, Part, Linked, sort_of_expr, truth, truths, addable, linked, given_by, join_found, with_operand, logic_node, chain_start, logic_found, with_link, link_found, level_node, links_start, links_found}
+use Rattle.std.proofs.Common.{◌≡◌, ◌∷◌, ◌++◌, ◌⊎◌}
+use Rattle.program_laws.proofs.Common.{Bool, true, List, [], map, Some, refl, ap, ◌∙◌, inl, inr, list_all, AllByRecursion, and_parts, and_from, or_left, or_right, Spot, Shape, Operator, TypedExpr, TypedLink, roll-TypedLink, same, Names, Checked, checked, is_of, is_add, Sort, Logic, Level, Chain, LinkChain, Judged, Demand, Value, operand, Part, Linked, sort_of_expr, truth, truths, addable, linked, given_by, join_found, with_operand, logic_node, chain_start, logic_found, with_link, link_found, level_node, links_start, links_found}
 use Rattle.epl_values.specs.declared.shape.Shape.TheVariants as shape
 use Rattle.typed_program.specs.declared.expression.TypedNode.TheVariants as made
 use Rattle.typed_program.specs.declared.expression.TypedNode.TheOpen as typed

@@ -1,5 +1,6 @@
 -- Literals of dictionaries answer, where their entries do.
-use Rattle.program_laws.proofs.Common.{◌≡◌, true, ◌&&◌, List, [], ◌∷◌, ◌++◌, map, Option, Some, None, refl, sym, ap, subst, ◌∙◌, true≢false, list_all, AllByRecursion, and_parts, and_from, Spot, Shape, Shape-F, out-Shape, TypedEntry, roll-TypedEntry, same, Names, Paired, checked, shape_of, is_of, Judged, EntryList, Demand, Value, Exactly, Key, Pair, entry_found, no_entries, dictionary_given, dictionary_items, dictionary_found, Part, wish_stands, wished}
+use Rattle.std.proofs.Common.{◌≡◌, ◌&&◌, ◌∷◌, ◌++◌}
+use Rattle.program_laws.proofs.Common.{true, List, [], map, Option, Some, None, refl, sym, ap, subst, ◌∙◌, true≢false, list_all, AllByRecursion, and_parts, and_from, Spot, Shape, Shape-F, out-Shape, TypedEntry, roll-TypedEntry, same, Names, Paired, checked, shape_of, is_of, Judged, EntryList, Demand, Value, Exactly, Key, Pair, entry_found, no_entries, dictionary_given, dictionary_items, dictionary_found, Part, wish_stands, wished}
 use Rattle.epl_values.specs.declared.shape.Shape.TheVariants as shape
 use Rattle.epl_values.specs.declared.shape.Shape.TheOpen as layer
 use Rattle.typed_program.specs.declared.expression.TypedNode.TheVariants as made

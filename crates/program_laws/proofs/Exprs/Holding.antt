@@ -1,5 +1,6 @@
 -- What holds of a typed expression, by its node.
-use Rattle.program_laws.proofs.Common.{◌≡◌, Bool, true, ◌&&◌, Option, Some, sym, ap, ◌∙◌, and_parts, and_from, Shape, TypedExpr, out-TypedExpr, roll-TypedExpr, out-roll-TypedExpr, fold-roll-TypedExpr, fold_out-TypedExpr, TypedNode, TypedNode-F, map-TypedNode, roll-TypedNode, fold-TypedNode, fold-roll-TypedNode, TypedEntry, roll-TypedEntry, fold-TypedEntry, fold-roll-TypedEntry, TypedLink, roll-TypedLink, fold-TypedLink, fold-roll-TypedLink, TypedSuffix, roll-TypedSuffix, fold-roll-TypedSuffix, TypedSuffixNode, TypedSuffixNode-F, map-TypedSuffixNode, roll-TypedSuffixNode, fold-TypedSuffixNode, fold-roll-TypedSuffixNode, Operator, same, Names, Checked, Paired, Stepping, node_so, step_so, entry_so, expr_so, link_so, suffix_so, checked, stepping, holds, shape_of, may_stand, if_known, is_of}
+use Rattle.std.proofs.Common.{◌≡◌, ◌&&◌}
+use Rattle.program_laws.proofs.Common.{Bool, true, Option, Some, sym, ap, ◌∙◌, and_parts, and_from, Shape, TypedExpr, out-TypedExpr, roll-TypedExpr, out-roll-TypedExpr, fold-roll-TypedExpr, fold_out-TypedExpr, TypedNode, TypedNode-F, map-TypedNode, roll-TypedNode, fold-TypedNode, fold-roll-TypedNode, TypedEntry, roll-TypedEntry, fold-TypedEntry, fold-roll-TypedEntry, TypedLink, roll-TypedLink, fold-TypedLink, fold-roll-TypedLink, TypedSuffix, roll-TypedSuffix, fold-roll-TypedSuffix, TypedSuffixNode, TypedSuffixNode-F, map-TypedSuffixNode, roll-TypedSuffixNode, fold-TypedSuffixNode, fold-roll-TypedSuffixNode, Operator, same, Names, Checked, Paired, Stepping, node_so, step_so, entry_so, expr_so, link_so, suffix_so, checked, stepping, holds, shape_of, may_stand, if_known, is_of}
 use Rattle.typed_program.specs.Expressions.{Node, Step, Linked}
 use Rattle.program_laws.proofs.Exprs.Alike.{same_self}
 

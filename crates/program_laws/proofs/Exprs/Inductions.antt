@@ -1,6 +1,7 @@
 -- One induction over expressions: what holds of each form, where it holds of the parts, holds of every expression, together with
 -- the names that it names.
-use Rattle.program_laws.proofs.Common.{◌≡◌, ℕ, Bool, List, [], ◌∷◌, map, sym, subst, bytes_eq, Spot, Comparison, Operator, Expr, Expr-F, map-Expr, roll-Expr, fold-roll-Expr, ExprNode, ExprNode-F, map-ExprNode, roll-ExprNode, fold-ExprNode, fold-roll-ExprNode, Link, Link-F, map-Link, roll-Link, fold-roll-Link, Entry, Entry-F, map-Entry, roll-Entry, fold-roll-Entry, Suffix, Suffix-F, map-Suffix, roll-Suffix, fold-roll-Suffix, SuffixNode, SuffixNode-F, map-SuffixNode, roll-SuffixNode, fold-SuffixNode, fold-roll-SuffixNode, ind-Expr, TypeExpr, Scope, Table, type_found, Logic, Level, inside, call_found, context_found, Pair, text_stands, boolean_stands, current_stands, integer_found, sequence_found, dictionary_found, is_change, seen, name_found, Part, Linked, not_found, minus_found, comparison_found, logic_found, links_found, Step, method_kind, field_found, index_found, method_found, postfix_found, Node, StepNode, node_step, suffix_node_step, entry_step, expr_step, link_step, suffix_step, link_part, entry_part, none, either, any_of, expr_node, expr_names, suffix_names, link_names, entry_names}
+use Rattle.std.proofs.Common.{◌≡◌, ◌∷◌}
+use Rattle.program_laws.proofs.Common.{ℕ, Bool, List, [], map, sym, subst, bytes_eq, Spot, Comparison, Operator, Expr, Expr-F, map-Expr, roll-Expr, fold-roll-Expr, ExprNode, ExprNode-F, map-ExprNode, roll-ExprNode, fold-ExprNode, fold-roll-ExprNode, Link, Link-F, map-Link, roll-Link, fold-roll-Link, Entry, Entry-F, map-Entry, roll-Entry, fold-roll-Entry, Suffix, Suffix-F, map-Suffix, roll-Suffix, fold-roll-Suffix, SuffixNode, SuffixNode-F, map-SuffixNode, roll-SuffixNode, fold-SuffixNode, fold-roll-SuffixNode, ind-Expr, TypeExpr, Scope, Table, type_found, Logic, Level, inside, call_found, context_found, Pair, text_stands, boolean_stands, current_stands, integer_found, sequence_found, dictionary_found, is_change, seen, name_found, Part, Linked, not_found, minus_found, comparison_found, logic_found, links_found, Step, method_kind, field_found, index_found, method_found, postfix_found, Node, StepNode, node_step, suffix_node_step, entry_step, expr_step, link_step, suffix_step, link_part, entry_part, none, either, any_of, expr_node, expr_names, suffix_names, link_names, entry_names}
 use Rattle.epl_tree.specs.declared.expression.ExprNode.TheOpen as node
 use Rattle.epl_tree.specs.declared.expression.ExprNode.TheFolds.{ind-Suffix}
 use Rattle.expr_rules.specs.declared.operators.Logic.TheVariants as logic

@@ -1,5 +1,6 @@
 -- Where all visible names are known, those that pass a test are; where those of a whole are known, those of its parts are.
-use Rattle.program_laws.proofs.Common.{◌≡◌, ℕ, true, List, ◌∷◌, Option, Some, None, AllByRecursion, or_left, or_right, Scope, Seen, Table, seen_of, Names, item_at, Knows, KnowsName, KnowsNamed, KnowsTable, either, any_of}
+use Rattle.std.proofs.Common.{◌≡◌, ◌∷◌}
+use Rattle.program_laws.proofs.Common.{ℕ, true, List, Option, Some, None, AllByRecursion, or_left, or_right, Scope, Seen, Table, seen_of, Names, item_at, Knows, KnowsName, KnowsNamed, KnowsTable, either, any_of}
 use Rattle.stmt_check.specs.Captures.{Names as Naming}
 use Rattle.program_laws.proofs.Shapes.Lists.{all_at}
 

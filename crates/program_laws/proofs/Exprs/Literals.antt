@@ -1,5 +1,6 @@
 -- Literals answer, where their elements do.
-use Rattle.program_laws.proofs.Common.{◌≡◌, ℕ, ℤ, Bool, true, false, List, [], ◌∷◌, ◌++◌, map, Option, Some, None, refl, sym, ap, subst, ◌∙◌, true≢false, if◌then◌else◌, pos, list_all, AllByRecursion, Spot, EventShape, Shape, Shape-F, out-Shape, TypedExpr, roll-TypedExpr, TypedNode, stands, is_sequence_layer, Names, checked, shape_of, is_of, Judged, Elements, Demand, Wish, Statement, Value, Exactly, Key, Event, Sequence, Channel, literal_stands, integer_stands, integer_found, integer_value, greatest, fixed, empty_code, empty_stands, text_stands, boolean_stands, current_stands, element_found, no_elements, sequence_items, sequence_found, Part, wish_stands}
+use Rattle.std.proofs.Common.{◌≡◌, ◌∷◌, ◌++◌, if◌then◌else◌}
+use Rattle.program_laws.proofs.Common.{ℕ, ℤ, Bool, true, false, List, [], map, Option, Some, None, refl, sym, ap, subst, ◌∙◌, true≢false, pos, list_all, AllByRecursion, Spot, EventShape, Shape, Shape-F, out-Shape, TypedExpr, roll-TypedExpr, TypedNode, stands, is_sequence_layer, Names, checked, shape_of, is_of, Judged, Elements, Demand, Wish, Statement, Value, Exactly, Key, Event, Sequence, Channel, literal_stands, integer_stands, integer_found, integer_value, greatest, fixed, empty_code, empty_stands, text_stands, boolean_stands, current_stands, element_found, no_elements, sequence_items, sequence_found, Part, wish_stands}
 use Rattle.epl_values.specs.declared.shape.Shape.TheVariants as shape
 use Rattle.epl_values.specs.declared.shape.Shape.TheOpen as layer
 use Rattle.typed_program.specs.declared.expression.TypedNode.TheVariants as made

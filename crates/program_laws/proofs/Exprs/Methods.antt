@@ -1,5 +1,6 @@
 -- The methods of a type, as they are asked, are those that the type has, and their shapes stand.
-use Rattle.program_laws.proofs.Common.{◌≡◌, ℕ, Bool, true, false, ◌&&◌, not, List, [], ◌∷◌, Option, Some, None, refl, subst, ◌∙◌, list_all, and_from, EventShape, Shape, Shape-F, out-Shape, Method, stands, holds_link, may_stand, Signature, MethodCall, wants_of_shapes, row_of, gives_result}
+use Rattle.std.proofs.Common.{◌≡◌, ◌&&◌, ◌∷◌}
+use Rattle.program_laws.proofs.Common.{ℕ, Bool, true, false, not, List, [], Option, Some, None, refl, subst, ◌∙◌, list_all, and_from, EventShape, Shape, Shape-F, out-Shape, Method, stands, holds_link, may_stand, Signature, MethodCall, wants_of_shapes, row_of, gives_result}
 use Rattle.epl_values.specs.declared.shape.Shape.TheVariants as shape
 use Rattle.epl_values.specs.declared.shape.Shape.TheOpen as layer
 use Rattle.typed_program.specs.declared.expression.Method.TheVariants as method

@@ -1,5 +1,6 @@
 -- A visible name answers, and so does what a place begins with.
-use Rattle.program_laws.proofs.Common.{◌≡◌, ℕ, true, false, List, Option, Some, None, refl, sym, ap, subst, ◌∙◌, Spot, Shape, TypedExpr, out-TypedExpr, roll-TypedExpr, out-roll-TypedExpr, TypedNode, Names, shape_of, if_known, variable_shape, Scope, Seen, SeenKind, Judged, Demand, seen, outer_code, variable, root_of, name_found, known, judged, shape_given, variable_layer, variable_of, KnowsName, by_number}
+use Rattle.std.proofs.Common.{◌≡◌}
+use Rattle.program_laws.proofs.Common.{ℕ, true, false, List, Option, Some, None, refl, sym, ap, subst, ◌∙◌, Spot, Shape, TypedExpr, out-TypedExpr, roll-TypedExpr, out-roll-TypedExpr, TypedNode, Names, shape_of, if_known, variable_shape, Scope, Seen, SeenKind, Judged, Demand, seen, outer_code, variable, root_of, name_found, known, judged, shape_given, variable_layer, variable_of, KnowsName, by_number}
 use Rattle.typed_program.specs.declared.expression.TypedNode.TheVariants as made
 use Rattle.typed_program.specs.declared.expression.TypedNode.TheOpen as typed
 use Rattle.typed_program.specs.Expressions.{gives}

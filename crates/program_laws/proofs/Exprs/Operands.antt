@@ -1,5 +1,6 @@
 -- An operator on operands that answer answers.
-use Rattle.program_laws.proofs.Common.{◌≡◌, Bool, true, false, ◌&&◌, [], ◌∷◌, Option, Some, None, refl, sym, ap, subst, ◌∙◌, if◌then◌else◌, and_from, Spot, Shape, Comparison, TypedExpr, out-TypedExpr, TypedNode, same, Names, checked, holds, shape_of, may_compare, if_known, is_of, Sort, Judged, Demand, Value, operand, Part, sort_of_expr, truth, given_by, operated, not_found, minus_node, minus_found, comparison_found}
+use Rattle.std.proofs.Common.{◌≡◌, ◌&&◌, ◌∷◌, if◌then◌else◌}
+use Rattle.program_laws.proofs.Common.{Bool, true, false, [], Option, Some, None, refl, sym, ap, subst, ◌∙◌, and_from, Spot, Shape, Comparison, TypedExpr, out-TypedExpr, TypedNode, same, Names, checked, holds, shape_of, may_compare, if_known, is_of, Sort, Judged, Demand, Value, operand, Part, sort_of_expr, truth, given_by, operated, not_found, minus_node, minus_found, comparison_found}
 use Rattle.epl_values.specs.declared.shape.Shape.TheVariants as shape
 use Rattle.typed_program.specs.declared.expression.TypedNode.TheVariants as made
 use Rattle.typed_program.specs.declared.expression.TypedNode.TheOpen as typed

@@ -1,5 +1,6 @@
 -- What sorts of operands operators take and give, where all of them are known.
-use Rattle.program_laws.proofs.Common.{◌≡◌, true, Option, Some, None, refl, sym, ap, ◌∙◌, true≢false, ◌⊎◌, inl, inr, Shape, Shape-F, out-Shape, Comparison, Operator, is_scalar_layer, is_ordered_layer, may_compare, is_add, Sort, Value, shape_given, truth, addable, linked, truths, given_by, wished}
+use Rattle.std.proofs.Common.{◌≡◌, ◌⊎◌}
+use Rattle.program_laws.proofs.Common.{true, Option, Some, None, refl, sym, ap, ◌∙◌, true≢false, inl, inr, Shape, Shape-F, out-Shape, Comparison, Operator, is_scalar_layer, is_ordered_layer, may_compare, is_add, Sort, Value, shape_given, truth, addable, linked, truths, given_by, wished}
 use Rattle.epl_values.specs.declared.shape.Shape.TheVariants as shape
 use Rattle.epl_values.specs.declared.shape.Shape.TheOpen as layer
 use Rattle.epl_tree.specs.declared.expression.Comparison.TheVariants as comparison

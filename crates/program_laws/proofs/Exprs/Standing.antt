@@ -1,5 +1,6 @@
 -- Where a shape stands, its parts stand.
-use Rattle.program_laws.proofs.Common.{◌≡◌, ℕ, true, ◌&&◌, List, length, refl, sym, ap, ◌∙◌, nat_lt, and_parts, and_from, EventShape, Shape, Shape-F, map-Shape, out-Shape, roll-Shape, roll-out-Shape, Standing, standing_step, stands, is_scalar_layer}
+use Rattle.std.proofs.Common.{◌≡◌, ◌&&◌}
+use Rattle.program_laws.proofs.Common.{ℕ, true, List, length, refl, sym, ap, ◌∙◌, nat_lt, and_parts, and_from, EventShape, Shape, Shape-F, map-Shape, out-Shape, roll-Shape, roll-out-Shape, Standing, standing_step, stands, is_scalar_layer}
 use Rattle.epl_values.specs.declared.shape.Shape.{fold-Shape, fold_out-Shape}
 use Rattle.epl_values.specs.declared.shape.Shape.TheVariants as shape
 use Rattle.epl_values.specs.declared.shape.Shape.TheOpen as layer

@@ -1,5 +1,6 @@
 -- Where a walk comes to: each step leads on from the shape before it.
-use Rattle.program_laws.proofs.Common.{◌≡◌, ◌+◌, true, List, [], ◌∷◌, ◌++◌, map, length, Option, Some, None, refl, sym, ap, subst, ◌∙◌, true≢false, and_parts, and_from, length_push, Spot, Shape, TypedExpr, TypedSuffix, roll-TypedSuffix, TypedSuffixNode, stands, Names, Stepping, stepping, shape_of, may_stand, walks, agrees, Gives, Root, Judged, Reach, Walk, Demand, Wish, Value, given_codes, key_codes, misfit_codes, path_codes, shape_given, Step, walk_start, walked, reached, wish_stands, wished, gives_result}
+use Rattle.std.proofs.Common.{◌≡◌, ◌+◌, ◌∷◌, ◌++◌}
+use Rattle.program_laws.proofs.Common.{true, List, [], map, length, Option, Some, None, refl, sym, ap, subst, ◌∙◌, true≢false, and_parts, and_from, length_push, Spot, Shape, TypedExpr, TypedSuffix, roll-TypedSuffix, TypedSuffixNode, stands, Names, Stepping, stepping, shape_of, may_stand, walks, agrees, Gives, Root, Judged, Reach, Walk, Demand, Wish, Value, given_codes, key_codes, misfit_codes, path_codes, shape_given, Step, walk_start, walked, reached, wish_stands, wished, gives_result}
 use Rattle.expr_rules.specs.declared.placed.Gives.TheVariants as gives
 use Rattle.expr_rules.specs.Places.{placed}
 use Rattle.program_laws.proofs.Exprs.Sure.{Sure, sure_then, sure_sound}

@@ -1,5 +1,6 @@
 -- A field, an element and a method answer behind a value that answers.
-use Rattle.program_laws.proofs.Common.{◌≡◌, ℕ, true, List, [], ◌∷◌, map, min, Option, Some, None, slice_get, refl, sym, ap, subst, ◌∙◌, if◌then◌else◌, arith, AllByRecursion, and_from, slice_get_within, Spot, Field, EventShape, Shape, Shape-F, out-Shape, TypedExpr, Method, same, stands, Signature, Names, checked, is_of, are_of, agrees, may_stand, if_known, field_shape, shape_in, Scope, Table, Found, Arguments, Called, MethodCall, Reach, Root, Judged, Walk, Demand, Value, Exactly, fields_at, arguments_found, count_code, wants_of_shapes, row_of, unknown_call, called_by, called_on, called_of, method_reach, Part, change_code, shape_given, reached, missing_field, field_reach, field_named, field_found, element_reach_layer, near, is_far, nearer, index_found, called_found, method_found, KnowsTable, KnowsType, gives_result}
+use Rattle.std.proofs.Common.{◌≡◌, ◌∷◌, if◌then◌else◌}
+use Rattle.program_laws.proofs.Common.{ℕ, true, List, [], map, min, Option, Some, None, slice_get, refl, sym, ap, subst, ◌∙◌, arith, AllByRecursion, and_from, slice_get_within, Spot, Field, EventShape, Shape, Shape-F, out-Shape, TypedExpr, Method, same, stands, Signature, Names, checked, is_of, are_of, agrees, may_stand, if_known, field_shape, shape_in, Scope, Table, Found, Arguments, Called, MethodCall, Reach, Root, Judged, Walk, Demand, Value, Exactly, fields_at, arguments_found, count_code, wants_of_shapes, row_of, unknown_call, called_by, called_on, called_of, method_reach, Part, change_code, shape_given, reached, missing_field, field_reach, field_named, field_found, element_reach_layer, near, is_far, nearer, index_found, called_found, method_found, KnowsTable, KnowsType, gives_result}
 use Rattle.epl_values.specs.declared.shape.Shape.TheVariants as shape
 use Rattle.epl_values.specs.declared.shape.Shape.TheOpen as layer
 use Rattle.typed_program.specs.declared.expression.TypedSuffixNode.TheVariants as suffix

@@ -1,5 +1,6 @@
 -- What holds of a part in which no fault is found.
-use Rattle.program_laws.proofs.Common.{◌≡◌, ℕ, List, [], ◌∷◌, Option, Some, None, refl, AllByRecursion, Spot, Found, sound, codes_of}
+use Rattle.std.proofs.Common.{◌≡◌, ◌∷◌}
+use Rattle.program_laws.proofs.Common.{ℕ, List, [], Option, Some, None, refl, AllByRecursion, Spot, Found, sound, codes_of}
 use Rattle.expr_rules.specs.Then.{and_then, through, node}
 use Rattle.program_laws.proofs.Shapes.Lists.{no_both, no_told}
 

@@ -1,5 +1,6 @@
 -- Every expression answers, and every step behind a value.
-use Rattle.program_laws.proofs.Common.{List, [], ◌∷◌, map, refl, AllByRecursion, Spot, Expr, Suffix, Names, Scope, Table, Judged, Demand, inside, Pair, Part, Linked, astray_code, Step, codes_of, KnowsTable, KnowsNamed, any_of, expr_names, suffix_names, bytes_eq-Decides}
+use Rattle.std.proofs.Common.{◌∷◌}
+use Rattle.program_laws.proofs.Common.{List, [], map, refl, AllByRecursion, Spot, Expr, Suffix, Names, Scope, Table, Judged, Demand, inside, Pair, Part, Linked, astray_code, Step, codes_of, KnowsTable, KnowsNamed, any_of, expr_names, suffix_names, bytes_eq-Decides}
 use Rattle.expr_rules.specs.Places.{group_of}
 use Rattle.expr_rules.specs.Postfix.{leads}
 use Rattle.expr_rules.specs.Then.{and_then}

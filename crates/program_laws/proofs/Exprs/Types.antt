@@ -1,5 +1,6 @@
 -- A type in which no fault is found stands.
-use Rattle.program_laws.proofs.Common.{◌≡◌, ℕ, ◌<◌, true, List, ◌++◌, length, min, Option, Some, None, refl, sym, subst, arith, lt-ltb, Spot, Shape, TypeExpr, TypeNode, stands, Names, Scope, Table, Found, told, event_of, Written, node_found, written_step, written_of, type_found, KnowsTable}
+use Rattle.std.proofs.Common.{◌≡◌, ◌<◌, ◌++◌}
+use Rattle.program_laws.proofs.Common.{ℕ, true, List, length, min, Option, Some, None, refl, sym, subst, arith, lt-ltb, Spot, Shape, TypeExpr, TypeNode, stands, Names, Scope, Table, Found, told, event_of, Written, node_found, written_step, written_of, type_found, KnowsTable}
 use Rattle.epl_tree.specs.declared.types.TypeExpr.{TypeExpr-F, map-TypeExpr, roll-TypeExpr, fold-roll-TypeExpr, ind-TypeExpr}
 use Rattle.epl_tree.specs.declared.types.TypeNode.{TypeNode-F, map-TypeNode, roll-TypeNode, fold-TypeNode, fold-roll-TypeNode}
 use Rattle.epl_tree.specs.declared.types.TypeNode.TheOpen as node

@@ -1,5 +1,6 @@
 -- A value with steps behind it answers, and so does a place that is assigned.
-use Rattle.program_laws.proofs.Common.{◌≡◌, ℕ, suc, ◌+◌, ◌-◌, Bool, true, false, List, [], ◌∷◌, map, length, Option, Some, None, refl, sym, ap, subst, ◌∙◌, arith, AllByRecursion, and_from, Spot, Shape, TypedExpr, out-TypedExpr, TypedSuffix, Variable, stands, Names, checked, holds, shape_of, stepping, walks, variable_shape, Found, Judged, Walk, Demand, Wish, Value, Part, Step, demand_before, walk_start, step_found, walk_found, postfix_found, Target, variable_of, target_at, target_of, wish_stands}
+use Rattle.std.proofs.Common.{◌≡◌, ◌+◌, ◌-◌, ◌∷◌}
+use Rattle.program_laws.proofs.Common.{ℕ, suc, Bool, true, false, List, [], map, length, Option, Some, None, refl, sym, ap, subst, ◌∙◌, arith, AllByRecursion, and_from, Spot, Shape, TypedExpr, out-TypedExpr, TypedSuffix, Variable, stands, Names, checked, holds, shape_of, stepping, walks, variable_shape, Found, Judged, Walk, Demand, Wish, Value, Part, Step, demand_before, walk_start, step_found, walk_found, postfix_found, Target, variable_of, target_at, target_of, wish_stands}
 use Rattle.typed_program.specs.declared.expression.TypedNode.TheVariants as made
 use Rattle.typed_program.specs.declared.expression.TypedNode.TheOpen as typed
 use Rattle.expr_rules.specs.Asked.{assigned}

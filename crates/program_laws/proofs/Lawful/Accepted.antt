@@ -1,6 +1,7 @@
 -- Expressions, places and arguments in which no fault is found keep the rules of paths and changes, and what they name in the
 -- text their typed trees mention by number.
-use Rattle.program_laws.proofs.Common.{◌≡◌, ℕ, Bool, false, true, List, [], map, Some, refl, list_all, bytes_eq, bytes_eq-Decides, Expr, Place, TypedExpr, Names, Mention, mentions, all_mention, place_mentions, Sight, path_of, Scope, Seen, ParamHead, Table, Demand, typed_arguments, seen, place_found, expr_found, typed_of, any_of, expr_names, suffix_names, place_names, exprs_name, KnowsTable, KnowsNamed, SeesNamed, KeepsSpecial, permitted, Mentioned}
+use Rattle.std.proofs.Common.{◌≡◌}
+use Rattle.program_laws.proofs.Common.{ℕ, Bool, false, true, List, [], map, Some, refl, list_all, bytes_eq, bytes_eq-Decides, Expr, Place, TypedExpr, Names, Mention, mentions, all_mention, place_mentions, Sight, path_of, Scope, Seen, ParamHead, Table, Demand, typed_arguments, seen, place_found, expr_found, typed_of, any_of, expr_names, suffix_names, place_names, exprs_name, KnowsTable, KnowsNamed, SeesNamed, KeepsSpecial, permitted, Mentioned}
 use Rattle.typed_program.specs.Paths.{plain}
 use Rattle.expr_rules.specs.Places.{is_global}
 use Rattle.expr_check.specs.Expressions.{part_of, step_of}

@@ -1,5 +1,6 @@
 -- Calls keep the rules, where their arguments do: no path of a global is an argument, and neither `onload` nor `ondie` is called.
-use Rattle.program_laws.proofs.Common.{◌≡◌, ℕ, Bool, true, false, ◌&&◌, not, List, [], ◌∷◌, ◌++◌, map, min, Option, Some, None, slice_get, refl, sym, ap, subst, ◌∙◌, if◌then◌else◌, ◌==◌, list_all, list_any, position, AllByRecursion, bytes_eq, and_from, list_all-map, position-Some, get_or_from_slice_get, bytes_eq-Decides, Spot, Shape, Field, TypedExpr, Sight, argument, value, path_of, Scope, Table, ActionHead, MonitorHead, ParamHead, event_of, Paths, Arguments, Demand, asked_by, next_wish, argument_of, argument_found, arguments_found, no_arguments, fields_at, param_wants, is_callback, action_named, count_code, event_plan, action_plan, missing_plan, plan_of, callee_code, plan_found, call_found, context_code, context_start, context_found, items_of, typed_arguments, item_at, Part, lower, KeepsSpecial, permitted}
+use Rattle.std.proofs.Common.{◌≡◌, ◌&&◌, ◌∷◌, ◌++◌, if◌then◌else◌, ◌==◌}
+use Rattle.program_laws.proofs.Common.{ℕ, Bool, true, false, not, List, [], map, min, Option, Some, None, slice_get, refl, sym, ap, subst, ◌∙◌, list_all, list_any, position, AllByRecursion, bytes_eq, and_from, list_all-map, position-Some, get_or_from_slice_get, bytes_eq-Decides, Spot, Shape, Field, TypedExpr, Sight, argument, value, path_of, Scope, Table, ActionHead, MonitorHead, ParamHead, event_of, Paths, Arguments, Demand, asked_by, next_wish, argument_of, argument_found, arguments_found, no_arguments, fields_at, param_wants, is_callback, action_named, count_code, event_plan, action_plan, missing_plan, plan_of, callee_code, plan_found, call_found, context_code, context_start, context_found, items_of, typed_arguments, item_at, Part, lower, KeepsSpecial, permitted}
 use Rattle.epl_values.specs.declared.shape.Shape.TheVariants as shape
 use Rattle.typed_program.specs.declared.expression.TypedNode.TheVariants as made
 use Rattle.typed_program.specs.declared.expression.TypedNode.TheOpen as typed

@@ -1,5 +1,6 @@
 -- Literals keep the rules, where their elements and entries do.
-use Rattle.program_laws.proofs.Common.{◌≡◌, ℕ, ℤ, pos, Bool, true, ◌&&◌, List, [], ◌∷◌, ◌++◌, map, Option, Some, None, refl, ap, ◌∙◌, list_all, AllByRecursion, and_from, Spot, Shape, TypeExpr, TypedEntry, roll-TypedEntry, TypedExpr, roll-TypedExpr, TypedNode, Sight, value, path_of, Table, type_found, Elements, EntryList, Gives, Judged, Demand, Wish, Pair, literal_stands, integer_stands, integer_found, integer_value, greatest, fixed, empty_code, empty_stands, text_stands, boolean_stands, current_stands, element_found, no_elements, sequence_items, sequence_given, sequence_found, known_first, entry_found, key_wish, no_entries, dictionary_given, dictionary_items, dictionary_found, element_wish, value_wish, Part, shape_of_expr}
+use Rattle.std.proofs.Common.{◌≡◌, ◌&&◌, ◌∷◌, ◌++◌}
+use Rattle.program_laws.proofs.Common.{ℕ, ℤ, pos, Bool, true, List, [], map, Option, Some, None, refl, ap, ◌∙◌, list_all, AllByRecursion, and_from, Spot, Shape, TypeExpr, TypedEntry, roll-TypedEntry, TypedExpr, roll-TypedExpr, TypedNode, Sight, value, path_of, Table, type_found, Elements, EntryList, Gives, Judged, Demand, Wish, Pair, literal_stands, integer_stands, integer_found, integer_value, greatest, fixed, empty_code, empty_stands, text_stands, boolean_stands, current_stands, element_found, no_elements, sequence_items, sequence_given, sequence_found, known_first, entry_found, key_wish, no_entries, dictionary_given, dictionary_items, dictionary_found, element_wish, value_wish, Part, shape_of_expr}
 use Rattle.epl_values.specs.declared.shape.Shape.TheVariants as shape
 use Rattle.typed_program.specs.declared.expression.TypedNode.TheVariants as made
 use Rattle.typed_program.specs.declared.expression.TypedNode.TheOpen as typed

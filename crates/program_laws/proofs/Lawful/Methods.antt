@@ -1,5 +1,6 @@
 -- A method keeps the rules behind a value, where its arguments do; one that changes its object stands where that may be changed.
-use Rattle.program_laws.proofs.Common.{◌≡◌, ℕ, ◌||◌, not, Bool, true, false, List, [], map, Option, Some, None, is_some, refl, sym, ap, subst, ◌∙◌, true≢false, list_all, AllByRecursion, and_from, Spot, Shape, Method, TypedExpr, Signature, Sight, may_change, end_of, path_of, Arguments, Called, MethodCall, StepKind, Walk, Demand, arguments_found, count_code, no_arguments, is_change, unknown_call, called_by, called_on, called_of, method_reach, Part, change_code, method_kind, called_found, method_found}
+use Rattle.std.proofs.Common.{◌≡◌, ◌||◌}
+use Rattle.program_laws.proofs.Common.{ℕ, not, Bool, true, false, List, [], map, Option, Some, None, is_some, refl, sym, ap, subst, ◌∙◌, true≢false, list_all, AllByRecursion, and_from, Spot, Shape, Method, TypedExpr, Signature, Sight, may_change, end_of, path_of, Arguments, Called, MethodCall, StepKind, Walk, Demand, arguments_found, count_code, no_arguments, is_change, unknown_call, called_by, called_on, called_of, method_reach, Part, change_code, method_kind, called_found, method_found}
 use Rattle.typed_program.specs.declared.expression.TypedNode.TheOpen as typed
 use Rattle.typed_program.specs.declared.expression.TypedSuffixNode.TheVariants as suffix
 use Rattle.typed_program.specs.Methods.{signature}

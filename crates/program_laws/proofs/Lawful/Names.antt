@@ -1,5 +1,6 @@
 -- A visible name keeps the rules; one in which no fault is found may be named, and is seen.
-use Rattle.program_laws.proofs.Common.{◌≡◌, ℕ, Bool, true, false, ◌&&◌, Option, Some, None, refl, sym, ap, subst, ◌∙◌, Spot, Shape, TypedNode, Sight, Visible, Path, Kind, is_reference_of, local, visible_at, Seen, SeenKind, Root, Demand, outer_code, variable, root_of, name_found, known, judged, shape_given, is_known_reference, SameRoot, SeesName, kind_seen, is_outer, is_barred}
+use Rattle.std.proofs.Common.{◌≡◌, ◌&&◌}
+use Rattle.program_laws.proofs.Common.{ℕ, Bool, true, false, Option, Some, None, refl, sym, ap, subst, ◌∙◌, Spot, Shape, TypedNode, Sight, Visible, Path, Kind, is_reference_of, local, visible_at, Seen, SeenKind, Root, Demand, outer_code, variable, root_of, name_found, known, judged, shape_given, is_known_reference, SameRoot, SeesName, kind_seen, is_outer, is_barred}
 use Rattle.typed_program.specs.declared.expression.TypedNode.TheVariants as made
 use Rattle.typed_program.specs.declared.expression.TypedNode.TheOpen as typed
 use Rattle.typed_program.specs.Paths.{Root as Begins, stays, root_of as begins_of, global_root}

@@ -1,5 +1,6 @@
 -- Operators keep the rules, where their operands do.
-use Rattle.program_laws.proofs.Common.{◌≡◌, Bool, true, false, ◌&&◌, List, [], ◌∷◌, ◌++◌, map, Option, Some, None, refl, ap, ◌∙◌, if◌then◌else◌, list_all, AllByRecursion, and_from, Spot, Shape, Comparison, Operator, TypedExpr, out-TypedExpr, TypedLink, roll-TypedLink, TypedNode, Sight, Path, value, path_of, Sort, Logic, Level, Chain, LinkChain, Judged, Demand, operand, Part, Linked, sort_of_expr, truth, truths, addable, linked, given_by, operated, not_found, minus_found, comparison_found, join_found, with_operand, logic_node, chain_start, logic_found, with_link, link_found, level_node, links_start, links_found}
+use Rattle.std.proofs.Common.{◌≡◌, ◌&&◌, ◌∷◌, ◌++◌, if◌then◌else◌}
+use Rattle.program_laws.proofs.Common.{Bool, true, false, List, [], map, Option, Some, None, refl, ap, ◌∙◌, list_all, AllByRecursion, and_from, Spot, Shape, Comparison, Operator, TypedExpr, out-TypedExpr, TypedLink, roll-TypedLink, TypedNode, Sight, Path, value, path_of, Sort, Logic, Level, Chain, LinkChain, Judged, Demand, operand, Part, Linked, sort_of_expr, truth, truths, addable, linked, given_by, operated, not_found, minus_found, comparison_found, join_found, with_operand, logic_node, chain_start, logic_found, with_link, link_found, level_node, links_start, links_found}
 use Rattle.typed_program.specs.declared.expression.TypedNode.TheVariants as made
 use Rattle.typed_program.specs.declared.expression.TypedNode.TheOpen as typed
 use Rattle.typed_program.specs.Paths.{plain, all_plain}

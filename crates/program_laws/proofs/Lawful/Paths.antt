@@ -1,5 +1,6 @@
 -- The path of a typed expression, by its node: its shape is the expression's.
-use Rattle.program_laws.proofs.Common.{◌≡◌, Option, Some, None, refl, sym, ap, ◌∙◌, Shape, Operator, TypedExpr, out-TypedExpr, roll-TypedExpr, out-roll-TypedExpr, fold-roll-TypedExpr, fold_out-TypedExpr, TypedNode, TypedNode-F, map-TypedNode, roll-TypedNode, out-TypedNode, fold-TypedNode, fold-roll-TypedNode, TypedEntry, roll-TypedEntry, fold-TypedEntry, fold-roll-TypedEntry, TypedLink, roll-TypedLink, fold-TypedLink, fold-roll-TypedLink, TypedSuffix, roll-TypedSuffix, fold-roll-TypedSuffix, TypedSuffixNode, TypedSuffixNode-F, map-TypedSuffixNode, roll-TypedSuffixNode, fold-TypedSuffixNode, fold-roll-TypedSuffixNode, shape_of, Sight, Visible, Path, Going, local, visible_at, node_path, step_path, expr_path, entry_path, link_path, suffix_path, path_of, going_of}
+use Rattle.std.proofs.Common.{◌≡◌}
+use Rattle.program_laws.proofs.Common.{Option, Some, None, refl, sym, ap, ◌∙◌, Shape, Operator, TypedExpr, out-TypedExpr, roll-TypedExpr, out-roll-TypedExpr, fold-roll-TypedExpr, fold_out-TypedExpr, TypedNode, TypedNode-F, map-TypedNode, roll-TypedNode, out-TypedNode, fold-TypedNode, fold-roll-TypedNode, TypedEntry, roll-TypedEntry, fold-TypedEntry, fold-roll-TypedEntry, TypedLink, roll-TypedLink, fold-TypedLink, fold-roll-TypedLink, TypedSuffix, roll-TypedSuffix, fold-roll-TypedSuffix, TypedSuffixNode, TypedSuffixNode-F, map-TypedSuffixNode, roll-TypedSuffixNode, fold-TypedSuffixNode, fold-roll-TypedSuffixNode, shape_of, Sight, Visible, Path, Going, local, visible_at, node_path, step_path, expr_path, entry_path, link_path, suffix_path, path_of, going_of}
 use Rattle.typed_program.specs.declared.expression.TypedNode.{fold_out-TypedNode}
 use Rattle.typed_program.specs.declared.expression.TypedNode.TheOpen as typed
 use Rattle.typed_program.specs.Paths.{Pair, Node}

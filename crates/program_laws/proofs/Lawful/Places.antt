@@ -1,5 +1,6 @@
 -- A place that is assigned keeps the rules: its variable is visible, its steps go on from there, and its end may be changed.
-use Rattle.program_laws.proofs.Common.{◌≡◌, ℕ, ◌&&◌, Bool, true, false, List, map, length, Option, Some, None, is_some, slice_get, refl, sym, ap, subst, ◌∙◌, AllByRecursion, and_from, Spot, Shape, TypedExpr, out-TypedExpr, roll-TypedExpr, TypedNode, TypedSuffix, Site, Variable, Names, Sight, Visible, Path, is_reference_of, visible_at, goes, end_of, may_change, path_of, Seen, SeenKind, Judged, Walk, Demand, outer_code, variable, name_found, Part, known, Step, demand_before, walk_found, variable_layer, variable_of, target_at, target_of, Target, KnowsName, by_number, is_barred}
+use Rattle.std.proofs.Common.{◌≡◌, ◌&&◌}
+use Rattle.program_laws.proofs.Common.{ℕ, Bool, true, false, List, map, length, Option, Some, None, is_some, slice_get, refl, sym, ap, subst, ◌∙◌, AllByRecursion, and_from, Spot, Shape, TypedExpr, out-TypedExpr, roll-TypedExpr, TypedNode, TypedSuffix, Site, Variable, Names, Sight, Visible, Path, is_reference_of, visible_at, goes, end_of, may_change, path_of, Seen, SeenKind, Judged, Walk, Demand, outer_code, variable, name_found, Part, known, Step, demand_before, walk_found, variable_layer, variable_of, target_at, target_of, Target, KnowsName, by_number, is_barred}
 use Rattle.typed_program.specs.declared.expression.TypedNode.TheVariants as made
 use Rattle.typed_program.specs.declared.statement.Variable.TheVariants as variables
 use Rattle.typed_program.specs.Courses.{place_root}

@@ -1,5 +1,6 @@
 -- What expressions, places, arguments and event expressions keep where no fault is found in them.
-use Rattle.program_laws.proofs.Common.{◌≡◌, ℕ, length, map, List, [], Bool, true, false, list_all, EventExpr, Expr, Place, Site, TypedTerm, assigns, Names, mentions, all_mention, place_mentions, Sight, Visible, path_of, term_lawful, Scope, ParamHead, Table, Demand, typed_arguments, place_found, expr_found, term_found, expr_names, place_names, event_names, exprs_name, KnowsTable, KnowsNamed, SeesNamed, KeepsSpecial, permitted, Mentioned}
+use Rattle.std.proofs.Common.{◌≡◌}
+use Rattle.program_laws.proofs.Common.{ℕ, length, map, List, [], Bool, true, false, list_all, EventExpr, Expr, Place, Site, TypedTerm, assigns, Names, mentions, all_mention, place_mentions, Sight, Visible, path_of, term_lawful, Scope, ParamHead, Table, Demand, typed_arguments, place_found, expr_found, term_found, expr_names, place_names, event_names, exprs_name, KnowsTable, KnowsNamed, SeesNamed, KeepsSpecial, permitted, Mentioned}
 use Rattle.typed_program.specs.declared.statement.TypedPlace.{TypedPlace}
 use Rattle.typed_program.specs.Paths.{plain}
 use Rattle.expr_check.specs.Expressions.{part_of as expr_part}

@@ -1,5 +1,6 @@
 -- Every expression mentions what it names.
-use Rattle.program_laws.proofs.Common.{◌≡◌, ℕ, false, List, Some, Scope, Seen, Table, type_found, integer_found, text_stands, boolean_stands, current_stands, seen}
+use Rattle.std.proofs.Common.{◌≡◌}
+use Rattle.program_laws.proofs.Common.{ℕ, false, List, Some, Scope, Seen, Table, type_found, integer_found, text_stands, boolean_stands, current_stands, seen}
 use Rattle.expr_rules.specs.Literals.{new_stands}
 use Rattle.expr_rules.specs.Places.{is_global}
 use Rattle.expr_rules.specs.Then.{and_then}

@@ -1,5 +1,6 @@
 -- What is named in the text is mentioned in the typed tree: what this means of parts, of rows of parts, and of a node at its place.
-use Rattle.program_laws.proofs.Common.{◌≡◌, ℕ, true, ◌||◌, List, [], ◌∷◌, Option, Some, None, false, sym, subst, true≢false, ◌⊎◌, inl, inr, or_cases, or_left, or_right, Spot, Shape, roll-TypedExpr, TypedNode, Mention, mentions, Seen, Found, Sort, Gives, Judged, Root, Demand, Part, operated, given_by, judged, any_of, is_barred}
+use Rattle.std.proofs.Common.{◌≡◌, ◌||◌, ◌∷◌, ◌⊎◌}
+use Rattle.program_laws.proofs.Common.{ℕ, true, List, [], Option, Some, None, false, sym, subst, true≢false, inl, inr, or_cases, or_left, or_right, Spot, Shape, roll-TypedExpr, TypedNode, Mention, mentions, Seen, Found, Sort, Gives, Judged, Root, Demand, Part, operated, given_by, judged, any_of, is_barred}
 use Rattle.typed_program.specs.Mentions.{either}
 use Rattle.expr_rules.specs.declared.placed.Gives.TheVariants as gives
 use Rattle.expr_rules.specs.Places.{placed}

@@ -1,5 +1,6 @@
 -- What is named in arguments, elements and entries is mentioned in the typed tree, and so is a name that stands alone.
-use Rattle.program_laws.proofs.Common.{◌≡◌, ℕ, Bool, true, false, List, [], ◌∷◌, ◌++◌, map, Option, Some, None, refl, sym, ap, subst, ◌∙◌, true≢false, ◌⊎◌, inl, inr, bytes_eq, eq-eqb, bytes_eq-Decides, Spot, Shape, TypedEntry, roll-TypedEntry, TypedExpr, Mention, mentions, all_mention, Scope, Seen, SeenKind, ParamHead, Table, event_of, Arguments, Elements, EntryList, Gives, Judged, Demand, asked_by, inside, next_wish, argument_of, argument_found, arguments_found, no_arguments, param_wants, action_named, plan_of, callee_node, callee_code, plan_found, call_found, context_code, context_start, context_found, call_paths, items_of, typed_arguments, Pair, element_found, no_elements, sequence_items, sequence_given, sequence_found, known_first, entry_found, key_wish, no_entries, dictionary_given, dictionary_items, dictionary_found, element_wish, value_wish, seen, outer_code, variable, root_of, name_found, Part, known, astray_code, shape_of_expr, codes_of, any_of}
+use Rattle.std.proofs.Common.{◌≡◌, ◌∷◌, ◌++◌, ◌⊎◌}
+use Rattle.program_laws.proofs.Common.{ℕ, Bool, true, false, List, [], map, Option, Some, None, refl, sym, ap, subst, ◌∙◌, true≢false, inl, inr, bytes_eq, eq-eqb, bytes_eq-Decides, Spot, Shape, TypedEntry, roll-TypedEntry, TypedExpr, Mention, mentions, all_mention, Scope, Seen, SeenKind, ParamHead, Table, event_of, Arguments, Elements, EntryList, Gives, Judged, Demand, asked_by, inside, next_wish, argument_of, argument_found, arguments_found, no_arguments, param_wants, action_named, plan_of, callee_node, callee_code, plan_found, call_found, context_code, context_start, context_found, call_paths, items_of, typed_arguments, Pair, element_found, no_elements, sequence_items, sequence_given, sequence_found, known_first, entry_found, key_wish, no_entries, dictionary_given, dictionary_items, dictionary_found, element_wish, value_wish, seen, outer_code, variable, root_of, name_found, Part, known, astray_code, shape_of_expr, codes_of, any_of}
 use Rattle.epl_values.specs.declared.shape.Shape.TheVariants as shape
 use Rattle.typed_program.specs.declared.expression.TypedNode.TheVariants as made
 use Rattle.typed_program.specs.declared.expression.TypedNode.TheOpen as typed

@@ -1,5 +1,6 @@
 -- What is named in the operands of an operator, and in the entries of a dictionary, is mentioned in its typed tree.
-use Rattle.program_laws.proofs.Common.{◌≡◌, ℕ, Bool, true, false, List, [], ◌∷◌, ◌++◌, map, Some, sym, ◌⊎◌, inl, inr, if◌then◌else◌, Spot, Comparison, Operator, TypedExpr, out-TypedExpr, TypedLink, roll-TypedLink, Mention, mentions, Seen, Sort, Logic, Level, Chain, LinkChain, Judged, Demand, operand, Part, Linked, sort_of_expr, truth, truths, addable, linked, not_found, minus_node, minus_found, comparison_found, join_found, with_operand, logic_node, chain_start, logic_found, with_link, link_found, level_node, links_start, links_found, any_of}
+use Rattle.std.proofs.Common.{◌≡◌, ◌∷◌, ◌++◌, ◌⊎◌, if◌then◌else◌}
+use Rattle.program_laws.proofs.Common.{ℕ, Bool, true, false, List, [], map, Some, sym, inl, inr, Spot, Comparison, Operator, TypedExpr, out-TypedExpr, TypedLink, roll-TypedLink, Mention, mentions, Seen, Sort, Logic, Level, Chain, LinkChain, Judged, Demand, operand, Part, Linked, sort_of_expr, truth, truths, addable, linked, not_found, minus_node, minus_found, comparison_found, join_found, with_operand, logic_node, chain_start, logic_found, with_link, link_found, level_node, links_start, links_found, any_of}
 use Rattle.typed_program.specs.declared.expression.TypedNode.TheVariants as made
 use Rattle.typed_program.specs.declared.expression.TypedNode.TheOpen as typed
 use Rattle.typed_program.specs.Mentions.{either}

@@ -1,5 +1,6 @@
 -- What is named in the steps behind a value, and in a place, is mentioned in the typed tree.
-use Rattle.program_laws.proofs.Common.{◌≡◌, ℕ, ◌+◌, ◌-◌, Bool, true, false, ◌||◌, List, [], ◌∷◌, ◌++◌, map, length, Option, Some, None, refl, sym, ap, subst, ◌∙◌, true≢false, ◌⊎◌, inl, inr, bytes_eq, or_cases, Spot, Shape, Shape-F, out-Shape, TypedExpr, out-TypedExpr, roll-TypedExpr, out-roll-TypedExpr, TypedNode, TypedSuffix, roll-TypedSuffix, TypedSuffixNode, Variable, Mention, mentions, all_mention, place_mentions, Scope, Seen, SeenKind, Table, Arguments, MethodCall, Reach, Judged, Root, Walk, Demand, arguments_found, is_change, called_of, method_reach, seen, variable, name_found, Part, known, shape_given, Step, method_kind, demand_before, walk_start, walked, reached, field_found, element_reach_layer, near, index_found, called_found, method_found, step_found, walk_found, postfix_found, variable_layer, variable_of, target_at, target_of, Target, any_of}
+use Rattle.std.proofs.Common.{◌≡◌, ◌+◌, ◌-◌, ◌||◌, ◌∷◌, ◌++◌, ◌⊎◌}
+use Rattle.program_laws.proofs.Common.{ℕ, Bool, true, false, List, [], map, length, Option, Some, None, refl, sym, ap, subst, ◌∙◌, true≢false, inl, inr, bytes_eq, or_cases, Spot, Shape, Shape-F, out-Shape, TypedExpr, out-TypedExpr, roll-TypedExpr, out-roll-TypedExpr, TypedNode, TypedSuffix, roll-TypedSuffix, TypedSuffixNode, Variable, Mention, mentions, all_mention, place_mentions, Scope, Seen, SeenKind, Table, Arguments, MethodCall, Reach, Judged, Root, Walk, Demand, arguments_found, is_change, called_of, method_reach, seen, variable, name_found, Part, known, shape_given, Step, method_kind, demand_before, walk_start, walked, reached, field_found, element_reach_layer, near, index_found, called_found, method_found, step_found, walk_found, postfix_found, variable_layer, variable_of, target_at, target_of, Target, any_of}
 use Rattle.epl_values.specs.declared.shape.Shape.TheOpen as layer
 use Rattle.typed_program.specs.declared.expression.TypedNode.TheVariants as made
 use Rattle.typed_program.specs.declared.expression.TypedNode.TheOpen as typed

@@ -1,5 +1,6 @@
 -- Every expression keeps the rules, where the names that it names are seen: those of a whole are those of its parts.
-use Rattle.program_laws.proofs.Common.{◌≡◌, ℕ, true, List, [], ◌∷◌, refl, AllByRecursion, bytes_eq, bytes_eq-Decides, or_left, or_right, Spot, Sight, Visible, Scope, Table, Judged, Demand, inside, Pair, seen, name_found, Part, Linked, astray_code, Step, codes_of, either, any_of, SeesNamed, KeepsSpecial}
+use Rattle.std.proofs.Common.{◌≡◌, ◌∷◌}
+use Rattle.program_laws.proofs.Common.{ℕ, true, List, [], refl, AllByRecursion, bytes_eq, bytes_eq-Decides, or_left, or_right, Spot, Sight, Visible, Scope, Table, Judged, Demand, inside, Pair, seen, name_found, Part, Linked, astray_code, Step, codes_of, either, any_of, SeesNamed, KeepsSpecial}
 use Rattle.expr_rules.specs.Places.{group_of}
 use Rattle.expr_rules.specs.Then.{and_then}
 use Rattle.stmt_check.specs.Captures.{Names as Naming}

@@ -1,6 +1,7 @@
 -- What is known of a path at its place, where no fault is found there: what the place permits, that it is near where it is
 -- changed, and that it may be assigned where it is.
-use Rattle.program_laws.proofs.Common.{◌≡◌, ℕ, Bool, true, false, ◌&&◌, ◌||◌, not, [], ◌∷◌, ◌++◌, Option, Some, None, nat_le, refl, sym, ap, subst, ◌∙◌, if◌then◌else◌, Spot, Shape, out-TypedExpr, roll-TypedExpr, TypedNode, Sight, Path, is_reference_of, value, argument, path_of, Paths, Gives, Root, Judged, Demand, key_codes, misfit_codes, path_codes, given_codes, place_codes, change_code, astray_code, shape_given, judged, codes_of, SameRoot, permitted}
+use Rattle.std.proofs.Common.{◌≡◌, ◌&&◌, ◌||◌, ◌∷◌, ◌++◌, if◌then◌else◌}
+use Rattle.program_laws.proofs.Common.{ℕ, Bool, true, false, not, [], Option, Some, None, nat_le, refl, sym, ap, subst, ◌∙◌, Spot, Shape, out-TypedExpr, roll-TypedExpr, TypedNode, Sight, Path, is_reference_of, value, argument, path_of, Paths, Gives, Root, Judged, Demand, key_codes, misfit_codes, path_codes, given_codes, place_codes, change_code, astray_code, shape_given, judged, codes_of, SameRoot, permitted}
 use Rattle.typed_program.specs.Shapes.{is_reference}
 use Rattle.typed_program.specs.Paths.{Root as Begins, plain}
 use Rattle.expr_rules.specs.declared.asked.Paths.TheVariants as paths

@@ -1,5 +1,6 @@
 -- A field, an element and a method keep the rules behind a value: what is changed is near, and may be changed.
-use Rattle.program_laws.proofs.Common.{◌≡◌, ℕ, ◌+◌, not, Bool, true, false, List, [], ◌∷◌, ◌++◌, map, length, min, nat_le, Option, Some, None, is_some, slice_get, refl, sym, ap, subst, ◌∙◌, true≢false, if◌then◌else◌, arith, and_parts, and_from, le-leb, length_push, Spot, Field, Shape, Shape-F, out-Shape, Method, TypedExpr, TypedSuffix, roll-TypedSuffix, TypedSuffixNode, Sight, Going, may_change, goes, end_of, path_of, going_of, Table, Reach, Judged, Root, StepKind, Walk, Demand, fields_at, Part, change_code, Step, walked, reached, field_reach, field_found, element_reach_layer, near, is_far, nearer, index_found, SameRoot}
+use Rattle.std.proofs.Common.{◌≡◌, ◌+◌, ◌∷◌, ◌++◌, if◌then◌else◌}
+use Rattle.program_laws.proofs.Common.{ℕ, not, Bool, true, false, List, [], map, length, min, nat_le, Option, Some, None, is_some, slice_get, refl, sym, ap, subst, ◌∙◌, true≢false, arith, and_parts, and_from, le-leb, length_push, Spot, Field, Shape, Shape-F, out-Shape, Method, TypedExpr, TypedSuffix, roll-TypedSuffix, TypedSuffixNode, Sight, Going, may_change, goes, end_of, path_of, going_of, Table, Reach, Judged, Root, StepKind, Walk, Demand, fields_at, Part, change_code, Step, walked, reached, field_reach, field_found, element_reach_layer, near, is_far, nearer, index_found, SameRoot}
 use Rattle.std.proofs.lemmas.Bool.{eqb-false}
 use Rattle.epl_values.specs.declared.shape.Shape.TheOpen as layer
 use Rattle.typed_program.specs.declared.expression.Method.TheVariants as method

@@ -1,5 +1,6 @@
 -- The operands of an event expression are read in the scope around it, behind whose names stand those that it binds.
-use Rattle.program_laws.proofs.Common.{◌≡◌, ℕ, Bool, true, false, not, List, [], ◌∷◌, ◌++◌, map, length, Option, Some, is_some, refl, sym, ap, subst, ◌∙◌, true≢false, append_assoc, if◌then◌else◌, AllByRecursion, and_parts, not-true, append-nil, Expr, EventExpr, EventExpr-F, map-EventExpr, roll-EventExpr, fold-roll-EventExpr, EventNode, EventNode-F, map-EventNode, roll-EventNode, fold-EventNode, fold-roll-EventNode, ind-EventExpr, TemplateClause, Scope, Seen, Table, seen_of, Demand, seen, Part, typed_of, expr_found, seen_bound, clause_binds, clauses_bind, binds, inner_of, is_own}
+use Rattle.std.proofs.Common.{◌≡◌, ◌∷◌, ◌++◌, if◌then◌else◌}
+use Rattle.program_laws.proofs.Common.{ℕ, Bool, true, false, not, List, [], map, length, Option, Some, is_some, refl, sym, ap, subst, ◌∙◌, true≢false, append_assoc, AllByRecursion, and_parts, not-true, append-nil, Expr, EventExpr, EventExpr-F, map-EventExpr, roll-EventExpr, fold-roll-EventExpr, EventNode, EventNode-F, map-EventNode, roll-EventNode, fold-EventNode, fold-roll-EventNode, ind-EventExpr, TemplateClause, Scope, Seen, Table, seen_of, Demand, seen, Part, typed_of, expr_found, seen_bound, clause_binds, clauses_bind, binds, inner_of, is_own}
 use Rattle.epl_tree.specs.declared.event.EventNode.TheOpen as node
 use Rattle.epl_tree.specs.declared.event.TemplateClause.TheVariants as clause
 use Rattle.type_table.specs.declared.scope.SeenKind.TheVariants as kind

@@ -1,5 +1,6 @@
 -- What a part of an event expression evaluates at the `on` is plain, and what the part names is mentioned there.
-use Rattle.program_laws.proofs.Common.{◌≡◌, ℕ, Bool, true, false, ◌||◌, List, [], ◌∷◌, ◌++◌, refl, sym, ap, ◌∙◌, append_assoc, list_all, and_from, or_left, or_right, list_all-append, append-nil, Expr, TypedExpr, mentions, all_mention, Sight, Visible, path_of, Scope, Table, Demand, expr_found, Sofar, expr_names, either, SeesNamed, KeepsSpecial, permitted, Mentioned, is_barred}
+use Rattle.std.proofs.Common.{◌≡◌, ◌||◌, ◌∷◌, ◌++◌}
+use Rattle.program_laws.proofs.Common.{ℕ, Bool, true, false, List, [], refl, sym, ap, ◌∙◌, append_assoc, list_all, and_from, or_left, or_right, list_all-append, append-nil, Expr, TypedExpr, mentions, all_mention, Sight, Visible, path_of, Scope, Table, Demand, expr_found, Sofar, expr_names, either, SeesNamed, KeepsSpecial, permitted, Mentioned, is_barred}
 use Rattle.typed_program.specs.Paths.{plain}
 use Rattle.expr_rules.specs.declared.asked.Paths.TheVariants as paths
 use Rattle.stmt_check.specs.Captures.{Names as Naming}

@@ -1,5 +1,6 @@
 -- Durations of an event expression: what is evaluated at the `on` is plain, and names no bound name.
-use Rattle.program_laws.proofs.Common.{◌≡◌, ℕ, Bool, true, false, List, [], ◌∷◌, ◌++◌, Option, Some, None, refl, sym, ap, subst, ◌∙◌, true≢false, if◌then◌else◌, and_from, Spot, Duration, DurationNode, Expr, TypedExpr, fold-roll-TypedExpr, TypedNode, fold-TypedNode, fold-roll-TypedNode, Sight, Path, Going, path_of, node_path, step_path, entry_path, expr_path, link_path, suffix_path, Scope, Table, expr_found, Sofar, is_own, decimal_by, tenths, tenths_of, duration_names}
+use Rattle.std.proofs.Common.{◌≡◌, ◌∷◌, ◌++◌, if◌then◌else◌}
+use Rattle.program_laws.proofs.Common.{ℕ, Bool, true, false, List, [], Option, Some, None, refl, sym, ap, subst, ◌∙◌, true≢false, and_from, Spot, Duration, DurationNode, Expr, TypedExpr, fold-roll-TypedExpr, TypedNode, fold-TypedNode, fold-roll-TypedNode, Sight, Path, Going, path_of, node_path, step_path, entry_path, expr_path, link_path, suffix_path, Scope, Table, expr_found, Sofar, is_own, decimal_by, tenths, tenths_of, duration_names}
 use Rattle.std.specs.Prelude.{pos}
 use Rattle.epl_values.specs.declared.shape.Shape.TheVariants as shape
 use Rattle.epl_tree.specs.declared.event.DurationNode.TheVariants as node

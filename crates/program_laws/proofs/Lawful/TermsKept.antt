@@ -1,5 +1,6 @@
 -- Every part of an event expression without faults keeps the rules; what it evaluates at the `on` is plain, and mentions what it names.
-use Rattle.program_laws.proofs.Common.{◌≡◌, ℕ, ◌+◌, Bool, true, false, ◌&&◌, not, ◌==◌, List, [], ◌∷◌, ◌++◌, drop, length, Option, Some, None, refl, sym, ap, subst, ◌∙◌, true≢false, arith, list_all, drop-append_seam, and_from, eq-eqb, not_from_false, Spot, Duration, Template, EventExpr, EventExpr-F, map-EventExpr, roll-EventExpr, fold-roll-EventExpr, EventNode, EventNode-F, map-EventNode, roll-EventNode, fold-EventNode, fold-roll-EventNode, ind-EventExpr, Term, Term-F, map-Term, roll-Term, Names, Sight, follow, all_plain, term_part, Scope, Table, told, Sofar, template_read, not_codes, each_behind, may_begin, went, event_names, event_node, event_step, duration_names, limit_names, template_names, either}
+use Rattle.std.proofs.Common.{◌≡◌, ◌+◌, ◌&&◌, ◌==◌, ◌∷◌, ◌++◌}
+use Rattle.program_laws.proofs.Common.{ℕ, Bool, true, false, not, List, [], drop, length, Option, Some, None, refl, sym, ap, subst, ◌∙◌, true≢false, arith, list_all, drop-append_seam, and_from, eq-eqb, not_from_false, Spot, Duration, Template, EventExpr, EventExpr-F, map-EventExpr, roll-EventExpr, fold-roll-EventExpr, EventNode, EventNode-F, map-EventNode, roll-EventNode, fold-EventNode, fold-roll-EventNode, ind-EventExpr, Term, Term-F, map-Term, roll-Term, Names, Sight, follow, all_plain, term_part, Scope, Table, told, Sofar, template_read, not_codes, each_behind, may_begin, went, event_names, event_node, event_step, duration_names, limit_names, template_names, either}
 use Rattle.epl_tree.specs.declared.event.EventNode.TheOpen as node
 use Rattle.typed_program.specs.declared.term.Term.TheVariants as term
 use Rattle.typed_program.specs.declared.term.Term.TheOpen as layer

@@ -1,5 +1,6 @@
 -- An event expression in which no fault is found keeps the rules, its operands are plain, and what it names they mention.
-use Rattle.program_laws.proofs.Common.{◌≡◌, ℕ, ◌+◌, Bool, true, false, ◌&&◌, not, ◌==◌, nat_le, List, [], ◌∷◌, map, length, Some, None, is_some, slice_get, refl, sym, ap, subst, ◌∙◌, true≢false, arith, list_all, position, position_or_len, bytes_eq, and_from, and_parts, eq-eqb, le-leb, not_from_false, not-true, append-nil, EventExpr, TypedExpr, Names, all_mention, Sight, path_of, count_up, Scope, Seen, Table, seen_of, seen, item_at, Sofar, inner_of, term_found, term_read, nothing_yet, event_names, KnowsTable, KnowsNamed, SeesNamed, KeepsSpecial, Mentioned}
+use Rattle.std.proofs.Common.{◌≡◌, ◌+◌, ◌&&◌, ◌==◌, ◌∷◌}
+use Rattle.program_laws.proofs.Common.{ℕ, Bool, true, false, not, nat_le, List, [], map, length, Some, None, is_some, slice_get, refl, sym, ap, subst, ◌∙◌, true≢false, arith, list_all, position, position_or_len, bytes_eq, and_from, and_parts, eq-eqb, le-leb, not_from_false, not-true, append-nil, EventExpr, TypedExpr, Names, all_mention, Sight, path_of, count_up, Scope, Seen, Table, seen_of, seen, item_at, Sofar, inner_of, term_found, term_read, nothing_yet, event_names, KnowsTable, KnowsNamed, SeesNamed, KeepsSpecial, Mentioned}
 use Rattle.std.specs.Prelude.{cond, nat_lt}
 use Rattle.typed_program.specs.Paths.{plain}
 use Rattle.typed_program.specs.TermRules.{part_of}

@@ -1,5 +1,6 @@
 -- What paths from bound names, and sums that begin with one, name in the text.
-use Rattle.program_laws.proofs.Common.{◌≡◌, ℕ, Bool, true, false, ◌||◌, List, [], ◌∷◌, map, refl, sym, ap, ◌∙◌, true≢false, list_all, and_parts, bytes_eq-Decides, Entry, Expr, ExprNode, ExprNode-F, map-ExprNode, fold-ExprNode, Link, out-Link, fold_out-Link, Suffix, out-Suffix, fold_out-Suffix, SuffixNode, SuffixNode-F, map-SuffixNode, fold-SuffixNode, out-SuffixNode, fold_out-SuffixNode, Layer, layer_of, is_field_layer, expr_names, expr_node, suffix_names, link_names, entry_names, any_of}
+use Rattle.std.proofs.Common.{◌≡◌, ◌||◌, ◌∷◌}
+use Rattle.program_laws.proofs.Common.{ℕ, Bool, true, false, List, [], map, refl, sym, ap, ◌∙◌, true≢false, list_all, and_parts, bytes_eq-Decides, Entry, Expr, ExprNode, ExprNode-F, map-ExprNode, fold-ExprNode, Link, out-Link, fold_out-Link, Suffix, out-Suffix, fold_out-Suffix, SuffixNode, SuffixNode-F, map-SuffixNode, fold-SuffixNode, out-SuffixNode, fold_out-SuffixNode, Layer, layer_of, is_field_layer, expr_names, expr_node, suffix_names, link_names, entry_names, any_of}
 use Rattle.epl_tree.specs.declared.expression.ExprNode.TheOpen as node
 use Rattle.listener_check.specs.Values.{is_field}
 use Rattle.stmt_check.specs.Captures.{suffix_node, entry_step, expr_step, link_step, suffix_step}

@@ -1,5 +1,6 @@
 -- The names that a part of an event expression binds: none of them was bound in front, and none at all under a `not`.
-use Rattle.program_laws.proofs.Common.{◌≡◌, ℕ, Bool, true, false, ◌||◌, List, [], ◌∷◌, ◌++◌, length, Option, refl, sym, ap, ◌∙◌, true≢false, append_assoc, if◌then◌else◌, bytes_eq, list_any-append, bytes_eq-Decides, or_parts, append-nil, Name, Scope, told, seen_of, Sofar, is_among, is_taken, is_full, name_codes, with_name, Went, went}
+use Rattle.std.proofs.Common.{◌≡◌, ◌||◌, ◌∷◌, ◌++◌, if◌then◌else◌}
+use Rattle.program_laws.proofs.Common.{ℕ, Bool, true, false, List, [], length, Option, refl, sym, ap, ◌∙◌, true≢false, append_assoc, bytes_eq, list_any-append, bytes_eq-Decides, or_parts, append-nil, Name, Scope, told, seen_of, Sofar, is_among, is_taken, is_full, name_codes, with_name, Went, went}
 use Rattle.std.specs.Prelude.{is_some}
 use Rattle.listener_check.specs.Limits.{short}
 use Rattle.listener_check.specs.Templates.{name_read}

@@ -1,5 +1,6 @@
 -- Operands of constraints, and durations: what is evaluated at the `on` is plain, and a bound name that is named is one of a left side.
-use Rattle.program_laws.proofs.Common.{◌≡◌, ℕ, Bool, true, false, ◌&&◌, ◌||◌, not, List, [], ◌∷◌, ◌++◌, length, refl, sym, ap, subst, ◌∙◌, true≢false, if◌then◌else◌, list_all, and_parts, and_from, not-true, Spot, Shape, Expr, out-Expr, Link, out-Link, Operator, Suffix, TypedExpr, TypedLink, out-TypedLink, roll-TypedLink, out-roll-TypedLink, Operand, all_mention, Sight, named_in, Scope, Table, Found, Judged, Demand, seen, typed_of, expr_found, Reached, Sofar, Naming, is_own, with_sum, bound, sum_layer, Layer, layer_of, is_path_of, sign_naming, links_naming, form_layer, naming_of, Went, went, expr_names, Mentioned, is_barred}
+use Rattle.std.proofs.Common.{◌≡◌, ◌&&◌, ◌||◌, ◌∷◌, ◌++◌, if◌then◌else◌}
+use Rattle.program_laws.proofs.Common.{ℕ, Bool, true, false, not, List, [], length, refl, sym, ap, subst, ◌∙◌, true≢false, list_all, and_parts, and_from, not-true, Spot, Shape, Expr, out-Expr, Link, out-Link, Operator, Suffix, TypedExpr, TypedLink, out-TypedLink, roll-TypedLink, out-roll-TypedLink, Operand, all_mention, Sight, named_in, Scope, Table, Found, Judged, Demand, seen, typed_of, expr_found, Reached, Sofar, Naming, is_own, with_sum, bound, sum_layer, Layer, layer_of, is_path_of, sign_naming, links_naming, form_layer, naming_of, Went, went, expr_names, Mentioned, is_barred}
 use Rattle.epl_tree.specs.declared.expression.ExprNode.TheOpen as node
 use Rattle.epl_tree.specs.declared.expression.Operator.TheVariants as operator
 use Rattle.typed_program.specs.declared.term.Operand.TheVariants as operand

@@ -1,5 +1,6 @@
 -- Parts of an event expression in a row: each keeps the rules, and those of a right side of `->` behind what stands left of them.
-use Rattle.program_laws.proofs.Common.{◌≡◌, ℕ, ◌≤◌, Bool, true, false, not, List, [], ◌∷◌, ◌++◌, map, drop, length, refl, sym, ap, ◌∙◌, true≢false, arith, append_assoc, list_all, and_from, not_from_false, EventExpr, Term, Names, Sight, follow, all_plain, Scope, Table, Sofar, each_step, behind_step, each_behind, Went, went, event_names, any_of}
+use Rattle.std.proofs.Common.{◌≡◌, ◌≤◌, ◌∷◌, ◌++◌}
+use Rattle.program_laws.proofs.Common.{ℕ, Bool, true, false, not, List, [], map, drop, length, refl, sym, ap, ◌∙◌, true≢false, arith, append_assoc, list_all, and_from, not_from_false, EventExpr, Term, Names, Sight, follow, all_plain, Scope, Table, Sofar, each_step, behind_step, each_behind, Went, went, event_names, any_of}
 use Rattle.typed_program.specs.TermRules.{Part as Ruled, plain as stands_plain}
 use Rattle.listener_check.specs.Terms.{Part, each}
 use Rattle.listener_check.specs.Terms as reading

@@ -1,5 +1,6 @@
 -- A right side of `->` may name what its left sides bind: the places of names bound there are those that its operands have.
-use Rattle.program_laws.proofs.Common.{◌≡◌, ℕ, suc, ◌+◌, ◌<◌, ◌≤◌, Bool, true, false, ◌||◌, ◌==◌, List, [], ◌∷◌, ◌++◌, drop, length, Some, refl, sym, ap, subst, ◌∙◌, true≢false, arith, append_assoc, list_any, position_or_len, bytes_eq, and_parts, or_left, or_right, nat_tests, list_any-append, Names, count_up, Scope, Seen, Table, seen, Sofar, is_own, is_among, KnowsTable}
+use Rattle.std.proofs.Common.{◌≡◌, ◌+◌, ◌<◌, ◌≤◌, ◌||◌, ◌==◌, ◌∷◌, ◌++◌}
+use Rattle.program_laws.proofs.Common.{ℕ, suc, Bool, true, false, List, [], drop, length, Some, refl, sym, ap, subst, ◌∙◌, true≢false, arith, append_assoc, list_any, position_or_len, bytes_eq, and_parts, or_left, or_right, nat_tests, list_any-append, Names, count_up, Scope, Seen, Table, seen, Sofar, is_own, is_among, KnowsTable}
 use Rattle.std.specs.Prelude.{cond}
 use Rattle.std.proofs.lemmas.List.{drop-append-le}
 use Rattle.std.proofs.lemmas.List.Recursion.{is_position_or_len}

@@ -1,5 +1,6 @@
 -- A template without faults keeps the rules; what it evaluates at the `on` is plain, and mentions what it names.
-use Rattle.program_laws.proofs.Common.{◌≡◌, ℕ, Bool, true, ◌&&◌, ◌||◌, List, [], ◌∷◌, ◌++◌, map, length, Option, Some, None, slice_get, refl, sym, ap, subst, ◌∙◌, true≢false, arith, list_all, flat_map, and_from, flat_map-append, list_all-append, Spot, EventShape, Field, Shape, Constraint, ConstraintNode, Range, Template, TemplateClause, Comparison, Expr, Operand, TemplateShape, Names, Sight, named_in, operands_in, constraint_lawful, asked_fields, differ, Scope, Table, told, event_of, Done, Sofar, Clauses, is_named, number_of, missing_code, field_codes, none_done, lies, missing_read, found_read, numbered_read, constraint_read, constraint_step, constraints_read, leaf_codes, with_leaf, fields_of, no_clauses, clauses_read, template_of, template_read, went, expr_names, range_names, constraint_names, clause_names, template_names, any_of, KnowsTable}
+use Rattle.std.proofs.Common.{◌≡◌, ◌&&◌, ◌||◌, ◌∷◌, ◌++◌}
+use Rattle.program_laws.proofs.Common.{ℕ, Bool, true, List, [], map, length, Option, Some, None, slice_get, refl, sym, ap, subst, ◌∙◌, true≢false, arith, list_all, flat_map, and_from, flat_map-append, list_all-append, Spot, EventShape, Field, Shape, Constraint, ConstraintNode, Range, Template, TemplateClause, Comparison, Expr, Operand, TemplateShape, Names, Sight, named_in, operands_in, constraint_lawful, asked_fields, differ, Scope, Table, told, event_of, Done, Sofar, Clauses, is_named, number_of, missing_code, field_codes, none_done, lies, missing_read, found_read, numbered_read, constraint_read, constraint_step, constraints_read, leaf_codes, with_leaf, fields_of, no_clauses, clauses_read, template_of, template_read, went, expr_names, range_names, constraint_names, clause_names, template_names, any_of, KnowsTable}
 use Rattle.epl_tree.specs.declared.event.ConstraintNode.TheVariants as node
 use Rattle.epl_tree.specs.declared.event.TemplateClause.TheVariants as clause
 use Rattle.epl_tree.specs.declared.expression.Comparison.TheVariants as comparison

@@ -1,5 +1,6 @@
 -- An expression that names bound names is a path from one of them, to which a value that names none may be added.
-use Rattle.program_laws.proofs.Common.{◌≡◌, ℕ, Bool, true, false, ◌==◌, List, [], ◌∷◌, ◌++◌, map, length, Option, Some, None, refl, sym, ap, subst, ◌∙◌, true≢false, AllByRecursion, list_all, list_any, and_parts, Spot, Expr, out-Expr, Link, out-Link, fold_out-Link, Operator, Suffix, Shape, TypedExpr, roll-TypedExpr, out-roll-TypedExpr, out-TypedNode, TypedLink, roll-TypedLink, Scope, Seen, SeenKind, Table, LinkChain, Sort, Judged, Walk, Demand, Pair, seen, name_found, variable, Part, Linked, sort_of_expr, addable, given_by, linked, operated, links_start, links_found, link_found, with_link, judged, shape_given, known, Step, walked, field_found, demand_before, walk_start, step_found, postfix_found, Node, StepNode, node_step, suffix_node_step, entry_step, expr_step, link_step, suffix_step, link_part, is_own, is_among, place_layer, path_layer, Layer, layer_of, is_root_layer, is_path_of, is_path_layer}
+use Rattle.std.proofs.Common.{◌≡◌, ◌==◌, ◌∷◌, ◌++◌}
+use Rattle.program_laws.proofs.Common.{ℕ, Bool, true, false, List, [], map, length, Option, Some, None, refl, sym, ap, subst, ◌∙◌, true≢false, AllByRecursion, list_all, list_any, and_parts, Spot, Expr, out-Expr, Link, out-Link, fold_out-Link, Operator, Suffix, Shape, TypedExpr, roll-TypedExpr, out-roll-TypedExpr, out-TypedNode, TypedLink, roll-TypedLink, Scope, Seen, SeenKind, Table, LinkChain, Sort, Judged, Walk, Demand, Pair, seen, name_found, variable, Part, Linked, sort_of_expr, addable, given_by, linked, operated, links_start, links_found, link_found, with_link, judged, shape_given, known, Step, walked, field_found, demand_before, walk_start, step_found, postfix_found, Node, StepNode, node_step, suffix_node_step, entry_step, expr_step, link_step, suffix_step, link_part, is_own, is_among, place_layer, path_layer, Layer, layer_of, is_root_layer, is_path_of, is_path_layer}
 use Rattle.epl_tree.specs.declared.expression.ExprNode.TheOpen as node
 use Rattle.typed_program.specs.declared.expression.TypedNode.TheVariants as made
 use Rattle.typed_program.specs.declared.expression.TypedNode.TheOpen as typed

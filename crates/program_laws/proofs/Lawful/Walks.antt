@@ -1,6 +1,7 @@
 -- A value with steps behind it keeps the rules, and so does a place that is assigned: what is changed is told to each step
 -- before the change.
-use Rattle.program_laws.proofs.Common.{◌≡◌, ℕ, zero, suc, ◌+◌, ◌-◌, ◌&&◌, Bool, true, false, List, [], ◌∷◌, map, length, Option, Some, None, is_some, refl, sym, ap, subst, ◌∙◌, arith, AllByRecursion, and_from, Spot, Shape, TypedExpr, roll-TypedExpr, TypedSuffix, Sight, Path, goes, end_of, path_of, Judged, Root, StepKind, Walk, Demand, Part, Step, demand_before, walk_start, step_found, postfix_found, SameRoot}
+use Rattle.std.proofs.Common.{◌≡◌, ◌+◌, ◌-◌, ◌&&◌, ◌∷◌}
+use Rattle.program_laws.proofs.Common.{ℕ, zero, suc, Bool, true, false, List, [], map, length, Option, Some, None, is_some, refl, sym, ap, subst, ◌∙◌, arith, AllByRecursion, and_from, Spot, Shape, TypedExpr, roll-TypedExpr, TypedSuffix, Sight, Path, goes, end_of, path_of, Judged, Root, StepKind, Walk, Demand, Part, Step, demand_before, walk_start, step_found, postfix_found, SameRoot}
 use Rattle.typed_program.specs.declared.expression.TypedNode.TheVariants as made
 use Rattle.typed_program.specs.declared.expression.TypedNode.TheOpen as typed
 use Rattle.typed_program.specs.Paths.{Root as Begins}

@@ -1,5 +1,6 @@
 -- An event type that stands in the shape of a field is met by its name in the type that is written for it.
-use Rattle.program_laws.proofs.Common.{◌≡◌, ℕ, min, List, [], ◌∷◌, ◌++◌, Some, None, Bool, true, ◌||◌, Option, refl, ap, sym, subst, ◌∙◌, inl, inr, or_left, or_right, Spot, Shape, fold-roll-Shape, TypeExpr, TypeNode, TypeNode-F, roll-TypeNode, roll-TypeExpr, fold-TypeNode, fold-roll-TypeNode, fold-roll-TypeExpr, ind-TypeExpr, map-TypeNode, types_in, IsAmong, met, met_node, met_step, Found, Written, node_found, written_step, written_of, type_by}
+use Rattle.std.proofs.Common.{◌≡◌, ◌∷◌, ◌++◌, ◌||◌}
+use Rattle.program_laws.proofs.Common.{ℕ, min, List, [], Some, None, Bool, true, Option, refl, ap, sym, subst, ◌∙◌, inl, inr, or_left, or_right, Spot, Shape, fold-roll-Shape, TypeExpr, TypeNode, TypeNode-F, roll-TypeNode, roll-TypeExpr, fold-TypeNode, fold-roll-TypeNode, fold-roll-TypeExpr, ind-TypeExpr, map-TypeNode, types_in, IsAmong, met, met_node, met_step, Found, Written, node_found, written_step, written_of, type_by}
 use Rattle.std.specs.Prelude.{◌⊎◌}
 use Rattle.epl_values.specs.declared.shape.Shape.TheVariants as shape
 use Rattle.epl_values.specs.declared.shape.Shape.TheOpen as layer

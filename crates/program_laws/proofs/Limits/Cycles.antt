@@ -1,6 +1,6 @@
 -- Where each event type's name leads to itself by no chain as long as there are event types, none contains itself at any depth.
-use Rattle.program_laws.proofs.Common.{◌≡◌, ℕ, zero, suc, ◌+◌, ◌<◌, ◌≤◌, length, map, List, [], ◌∷◌, Some, None, Bool, true, false, ◌||◌, Option, refl, ap, sym, subst, ◌∙◌, slice_get, arith, inl, inr, option_map, AllByRecursion, flat_map, list_any, bytes_eq, cases_lt, eqb-true, or_cases, or_left, or_right, length-map, slice_get-map, slice_get_within, bytes_eq-Decides, EventShape, Field, EventDecl, FieldDecl, types_in, IsAmong, HasNoCycle, met, at_event, numbers, event_shape, names_of, found_at}
-use Rattle.std.proofs.Common.{eqb}
+use Rattle.program_laws.proofs.Common.{ℕ, zero, suc, length, map, List, [], Some, None, Bool, true, false, Option, refl, ap, sym, subst, ◌∙◌, slice_get, arith, inl, inr, option_map, AllByRecursion, flat_map, list_any, bytes_eq, cases_lt, eqb-true, or_cases, or_left, or_right, length-map, slice_get-map, slice_get_within, bytes_eq-Decides, EventShape, Field, EventDecl, FieldDecl, types_in, IsAmong, HasNoCycle, met, at_event, numbers, event_shape, names_of, found_at}
+use Rattle.std.proofs.Common.{◌≡◌, ◌+◌, ◌<◌, ◌≤◌, ◌∷◌, ◌||◌, eqb}
 use Rattle.std.specs.Prelude.{◌⊎◌}
 use Rattle.std.specs.List.{IsDistinct}
 use Rattle.std.proofs.lemmas.Bool.{ne_eqb, true≢false}

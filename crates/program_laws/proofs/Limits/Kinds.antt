@@ -1,5 +1,6 @@
 -- The event types of files in which no fault is found: none contains itself, and each has few fields and few leaves.
-use Rattle.program_laws.proofs.Common.{◌≡◌, ℕ, ◌+◌, ◌<◌, ◌≤◌, length, map, List, [], ◌∷◌, ◌++◌, Bool, true, false, ◌||◌, nat_le, nat_lt, if◌then◌else◌, sym, subst, arith, AllByRecursion, length-append, sum_by-append, sum_by-cons, or_parts, leb-false, Declaration, EventDecl, FieldDecl, Gathered, contains_itself, field_count, told, numbers, count_of, field_faults, fields_faults, event_faults, declaration_faults, faults_from, gathered_after, with_event, with_monitor, units_faults, none_gathered, in_file, declarations_of, names_of, with_kind, kinds_after, kinds_of, has_name, type_by}
+use Rattle.std.proofs.Common.{◌≡◌, ◌+◌, ◌<◌, ◌≤◌, ◌∷◌, ◌++◌, ◌||◌, if◌then◌else◌}
+use Rattle.program_laws.proofs.Common.{ℕ, length, map, List, [], Bool, true, false, nat_le, nat_lt, sym, subst, arith, AllByRecursion, length-append, sum_by-append, sum_by-cons, or_parts, leb-false, Declaration, EventDecl, FieldDecl, Gathered, contains_itself, field_count, told, numbers, count_of, field_faults, fields_faults, event_faults, declaration_faults, faults_from, gathered_after, with_event, with_monitor, units_faults, none_gathered, in_file, declarations_of, names_of, with_kind, kinds_after, kinds_of, has_name, type_by}
 use Rattle.std.proofs.lemmas.Bool.{ltb-false}
 use Rattle.epl_tree.specs.declared.unit.Declaration.TheVariants as declaration
 use Rattle.epl_tree.specs.declared.unit.Unit.{Unit as File}

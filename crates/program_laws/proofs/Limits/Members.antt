@@ -1,5 +1,6 @@
 -- Members, monitors and files in which no fault is found: there are few monitors, few parameters, and few bodies.
-use Rattle.program_laws.proofs.Common.{◌≡◌, ℕ, ◌+◌, ◌<◌, ◌≤◌, length, map, List, [], ◌∷◌, ◌++◌, not, nat_le, refl, sym, subst, arith, AllByRecursion, length-append, leb-false, ActionDecl, Declaration, EventDecl, GlobalDecl, Member, MonitorDecl, Action, Fault, Gathered, Table, numbers, with_event, with_monitor, monitor_faults, declaration_faults, faults_from, gathered_after, units_faults, units_gathered, none_gathered, in_file, has_onload, has_name, Made, action_of, action_read, body_around, body_start, global_read, members_read, monitor_of, declarations_read, file_made, files_faults, files_made, nothing_made, row_read}
+use Rattle.std.proofs.Common.{◌≡◌, ◌+◌, ◌<◌, ◌≤◌, ◌∷◌, ◌++◌}
+use Rattle.program_laws.proofs.Common.{ℕ, length, map, List, [], not, nat_le, refl, sym, subst, arith, AllByRecursion, length-append, leb-false, ActionDecl, Declaration, EventDecl, GlobalDecl, Member, MonitorDecl, Action, Fault, Gathered, Table, numbers, with_event, with_monitor, monitor_faults, declaration_faults, faults_from, gathered_after, units_faults, units_gathered, none_gathered, in_file, has_onload, has_name, Made, action_of, action_read, body_around, body_start, global_read, members_read, monitor_of, declarations_read, file_made, files_faults, files_made, nothing_made, row_read}
 use Rattle.epl_tree.specs.declared.unit.Declaration.TheVariants as declaration
 use Rattle.epl_tree.specs.declared.unit.Member.TheVariants as member
 use Rattle.epl_tree.specs.declared.unit.Unit.{Unit as File}

@@ -1,5 +1,6 @@
 -- The event types of a program have different names, so each is the one of its name.
-use Rattle.program_laws.proofs.Common.{◌≡◌, ℕ, zero, suc, length, List, [], ◌∷◌, ◌++◌, Some, None, Bool, true, false, if◌then◌else◌, Option, refl, ap, sym, subst, ◌∙◌, slice_get, get_or, arith, is_some, inl, inr, list_any, bytes_eq, or_parts, position-Some, bytes_eq-Decides, Declaration, EventDecl, declarations_of, names_of, with_kind, kinds_after, kinds_of, has_name, number_in}
+use Rattle.std.proofs.Common.{◌≡◌, ◌∷◌, ◌++◌, if◌then◌else◌}
+use Rattle.program_laws.proofs.Common.{ℕ, zero, suc, length, List, [], Some, None, Bool, true, false, Option, refl, ap, sym, subst, ◌∙◌, slice_get, get_or, arith, is_some, inl, inr, list_any, bytes_eq, or_parts, position-Some, bytes_eq-Decides, Declaration, EventDecl, declarations_of, names_of, with_kind, kinds_after, kinds_of, has_name, number_in}
 use Rattle.std.specs.Prelude.{◌⊎◌}
 use Rattle.std.proofs.lemmas.Bool.{true≢false}
 use Rattle.std.proofs.lemmas.Option.{slice_get-get_or}

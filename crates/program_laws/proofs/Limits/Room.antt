@@ -1,5 +1,6 @@
 -- A part of a body in which no fault is found leaves room: its sites, with the bodies before them, are 65,535 at most.
-use Rattle.program_laws.proofs.Common.{◌≡◌, ℕ, ◌+◌, ◌<◌, ◌≤◌, length, List, [], ◌∷◌, Some, None, Bool, true, false, ◌||◌, not, nat_le, Option, refl, ap, arith, take, drop, insert, IfSome, AllByRecursion, length-append, take-append-drop, leb-false, Spot, EventExpr, Shape, Name, TypedTerm, Stmt, Seen, SeenKind, Found, term_found, State, Around, in_callback, local_read, scoped, when, captured_in, bound_in, callback_start, site_of, on_codes, callback_read, listen_read, After, Reads}
+use Rattle.std.proofs.Common.{◌≡◌, ◌+◌, ◌<◌, ◌≤◌, ◌∷◌, ◌||◌}
+use Rattle.program_laws.proofs.Common.{ℕ, length, List, [], Some, None, Bool, true, false, not, nat_le, Option, refl, ap, arith, take, drop, insert, IfSome, AllByRecursion, length-append, take-append-drop, leb-false, Spot, EventExpr, Shape, Name, TypedTerm, Stmt, Seen, SeenKind, Found, term_found, State, Around, in_callback, local_read, scoped, when, captured_in, bound_in, callback_start, site_of, on_codes, callback_read, listen_read, After, Reads}
 use Rattle.stmt_check.specs.Bodies.{name_read}
 use Rattle.stmt_check.specs.Statements.{Part}
 use Rattle.stmt_check.specs.Steps.{◌>>=◌, pure, given, looks, reads_by, tells, changes, within, before_all, each, optional}

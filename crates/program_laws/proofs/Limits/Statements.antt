@@ -1,5 +1,6 @@
 -- Every statement leaves room, by induction over its tree.
-use Rattle.program_laws.proofs.Common.{ℕ, ◌+◌, map, List, [], ◌∷◌, Some, None, Bool, Option, IfSome, AllByRecursion, Spot, Expr, Name, Place, TypeExpr, TypedExpr, ActionHead, Table, Demand, Around, in_loop, scoped, NodePart, OnPart, reads, maybe_read, spawned_read, spawn_read, channel_read, monitor_read, row_read, other_read, block_read, on_read, if_read, while_read, turn_read, for_read, declare_on_read, assign_on_read, declare_read, declare_as_read, return_read}
+use Rattle.std.proofs.Common.{◌+◌, ◌∷◌}
+use Rattle.program_laws.proofs.Common.{ℕ, map, List, [], Some, None, Bool, Option, IfSome, AllByRecursion, Spot, Expr, Name, Place, TypeExpr, TypedExpr, ActionHead, Table, Demand, Around, in_loop, scoped, NodePart, OnPart, reads, maybe_read, spawned_read, spawn_read, channel_read, monitor_read, row_read, other_read, block_read, on_read, if_read, while_read, turn_read, for_read, declare_on_read, assign_on_read, declare_read, declare_as_read, return_read}
 use Rattle.epl_tree.specs.declared.statement.Stmt.{Stmt as Tree}
 use Rattle.epl_tree.specs.declared.statement.StmtNode.TheOpen as stmt
 use Rattle.type_table.specs.declared.scope.SeenKind.TheVariants as kind

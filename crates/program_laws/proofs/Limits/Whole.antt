@@ -1,6 +1,7 @@
 -- The program of files in which no fault is found has event types of different names, none of which contains itself, and
 -- keeps the limits.
-use Rattle.program_laws.proofs.Common.{◌≡◌, ℕ, ◌+◌, ◌≤◌, length, map, List, Some, true, ap, sym, subst, ◌∙◌, slice_get, arith, option_map, list_all, length-map, slice_get-map, le-leb, EventShape, EventDecl, HasNoCycle, Program, are_narrow, event_shape, numbers, kinds_of, names_of, IsProgram, made_of}
+use Rattle.std.proofs.Common.{◌≡◌, ◌+◌, ◌≤◌}
+use Rattle.program_laws.proofs.Common.{ℕ, length, map, List, Some, true, ap, sym, subst, ◌∙◌, slice_get, arith, option_map, list_all, length-map, slice_get-map, le-leb, EventShape, EventDecl, HasNoCycle, Program, are_narrow, event_shape, numbers, kinds_of, names_of, IsProgram, made_of}
 use Rattle.epl_tree.specs.declared.unit.Unit.{Unit as File}
 use Rattle.typed_program.specs.Limits.{has_few_params, within_limits}
 use Rattle.event_types.specs.Types.{HasDistinctNames}

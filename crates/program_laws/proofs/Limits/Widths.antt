@@ -1,5 +1,6 @@
 -- The leaves of an event type by numbers are no more than those that are counted by names, so there are few.
-use Rattle.program_laws.proofs.Common.{◌≡◌, ℕ, zero, suc, ◌+◌, ◌<◌, ◌≤◌, min, length, map, List, [], ◌∷◌, Some, None, true, Option, refl, ap, sym, subst, ◌∙◌, slice_get, arith, nat_le, option_map, AllByRecursion, length-map, sum_by-cons, slice_get-map, slice_get_within, le-leb, Spot, EventShape, Field, Shape, Shape-F, out-Shape, TypeExpr, TypeNode, TypeNode-F, fold-TypeNode, map-TypeNode, EventDecl, FieldDecl, are_narrow, at_event, field_count, Found, numbers, event_shape, names_of, found_at, Written, node_found, written_step, written_of, type_by}
+use Rattle.std.proofs.Common.{◌≡◌, ◌+◌, ◌<◌, ◌≤◌, ◌∷◌}
+use Rattle.program_laws.proofs.Common.{ℕ, zero, suc, min, length, map, List, [], Some, None, true, Option, refl, ap, sym, subst, ◌∙◌, slice_get, arith, nat_le, option_map, AllByRecursion, length-map, sum_by-cons, slice_get-map, slice_get_within, le-leb, Spot, EventShape, Field, Shape, Shape-F, out-Shape, TypeExpr, TypeNode, TypeNode-F, fold-TypeNode, map-TypeNode, EventDecl, FieldDecl, are_narrow, at_event, field_count, Found, numbers, event_shape, names_of, found_at, Written, node_found, written_step, written_of, type_by}
 use Rattle.std.specs.List.{sum_by}
 use Rattle.epl_values.specs.declared.shape.Shape.TheVariants as shape
 use Rattle.epl_values.specs.declared.shape.Shape.TheOpen as layer

@@ -1,5 +1,6 @@
 -- The body of an action keeps the rules, and ends with a `return` where the action has a result.
-use Rattle.program_laws.proofs.Common.{◌≡◌, ℕ, suc, ◌+◌, ◌≤◌, ◌==◌, length, map, List, [], ◌∷◌, ◌++◌, Some, Bool, true, false, ◌||◌, not, is_some, Option, refl, ap, sym, ◌∙◌, slice_get, arith, AllByRecursion, list_any, Shape, Program, Site, Stmt, special_in, action_lawful, ActionHead, Table, is_callback, State, Around, row_read, After}
+use Rattle.std.proofs.Common.{◌≡◌, ◌+◌, ◌≤◌, ◌==◌, ◌∷◌, ◌++◌, ◌||◌}
+use Rattle.program_laws.proofs.Common.{ℕ, suc, length, map, List, [], Some, Bool, true, false, not, is_some, Option, refl, ap, sym, ◌∙◌, slice_get, arith, AllByRecursion, list_any, Shape, Program, Site, Stmt, special_in, action_lawful, ActionHead, Table, is_callback, State, Around, row_read, After}
 use Rattle.epl_tree.specs.declared.statement.Stmt.{Stmt as Tree}
 use Rattle.typed_program.specs.Courses.{row_of, ends_with_return}
 use Rattle.typed_program.specs.Rules.{callback_lawful, params_from}

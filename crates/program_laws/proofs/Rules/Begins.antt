@@ -1,5 +1,6 @@
 -- Where the body of an action begins: its parameters are visible by their places, and its names differ.
-use Rattle.program_laws.proofs.Common.{◌≡◌, ℕ, suc, ◌+◌, ◌≤◌, min, length, map, List, [], ◌∷◌, ◌++◌, Some, Bool, true, false, if◌then◌else◌, is_some, Option, refl, ap, sym, subst, ◌∙◌, arith, append_assoc, AllByRecursion, bytes_eq, or_parts, or_from, Shape, Program, Site, Held, Visible, visible_at, Seen, GlobalHead, ParamHead, Table, global_seen, globals_after, params_from, param_wants, SeesName, is_barred, short}
+use Rattle.std.proofs.Common.{◌≡◌, ◌+◌, ◌≤◌, ◌∷◌, ◌++◌, if◌then◌else◌}
+use Rattle.program_laws.proofs.Common.{ℕ, suc, min, length, map, List, [], Some, Bool, true, false, is_some, Option, refl, ap, sym, subst, ◌∙◌, arith, append_assoc, AllByRecursion, bytes_eq, or_parts, or_from, Shape, Program, Site, Held, Visible, visible_at, Seen, GlobalHead, ParamHead, Table, global_seen, globals_after, params_from, param_wants, SeesName, is_barred, short}
 use Rattle.typed_program.specs.Rules.{params_from as params_visible}
 use Rattle.type_table.specs.Scopes.{param_seen, place_in, with_global}
 use Rattle.expr_rules.specs.Places.{is_global as is_global_name}

@@ -1,5 +1,6 @@
 -- Names that an event expression binds stand behind those around it, and differ from them and from one another.
-use Rattle.program_laws.proofs.Common.{◌≡◌, ℕ, Bool, true, false, if◌then◌else◌, List, [], ◌∷◌, ◌++◌, map, drop, length, is_some, refl, sym, ap, subst, ◌∙◌, append_assoc, TemplateClause, EventExpr, roll-EventExpr, fold-roll-EventExpr, EventNode, EventNode-F, map-EventNode, roll-EventNode, fold-EventNode, fold-roll-EventNode, ind-EventExpr, Scope, Seen, Table, seen_of, seen_bound, clause_binds, clauses_bind, binds, bound_in}
+use Rattle.std.proofs.Common.{◌≡◌, if◌then◌else◌, ◌∷◌, ◌++◌}
+use Rattle.program_laws.proofs.Common.{ℕ, Bool, true, false, List, [], map, drop, length, is_some, refl, sym, ap, subst, ◌∙◌, append_assoc, TemplateClause, EventExpr, roll-EventExpr, fold-roll-EventExpr, EventNode, EventNode-F, map-EventNode, roll-EventNode, fold-EventNode, fold-roll-EventNode, ind-EventExpr, Scope, Seen, Table, seen_of, seen_bound, clause_binds, clauses_bind, binds, bound_in}
 use Rattle.epl_tree.specs.declared.event.TemplateClause.TheVariants as clause
 use Rattle.epl_tree.specs.declared.event.EventNode.TheOpen as node
 use Rattle.listener_check.specs.Bound.{each, node_step, expr_step}

@@ -1,5 +1,6 @@
 -- A listener: what is evaluated at it keeps the rules there, and its callback keeps them behind the names that it takes along.
-use Rattle.program_laws.proofs.Common.{◌≡◌, ℕ, zero, suc, ◌+◌, ◌<◌, ◌≤◌, length, List, [], ◌∷◌, ◌++◌, Bool, true, false, ◌&&◌, nat_lt, Option, refl, ap, sym, subst, ◌∙◌, slice_get, arith, slice_get_within, or_left, lt-ltb, Shape, EventExpr, Site, TypedTerm, Stmt, if_known, Mention, all_mention, Visible, names_in, callback_params, special_in, term_lawful, Seen, Mentioned, State, Around, in_callback, captured_in, bound_in, callback_start, site_of, with_site, site_number, event_names, either, callback_read, After}
+use Rattle.std.proofs.Common.{◌≡◌, ◌+◌, ◌<◌, ◌≤◌, ◌∷◌, ◌++◌, ◌&&◌}
+use Rattle.program_laws.proofs.Common.{ℕ, zero, suc, length, List, [], Bool, true, false, nat_lt, Option, refl, ap, sym, subst, ◌∙◌, slice_get, arith, slice_get_within, or_left, lt-ltb, Shape, EventExpr, Site, TypedTerm, Stmt, if_known, Mention, all_mention, Visible, names_in, callback_params, special_in, term_lawful, Seen, Mentioned, State, Around, in_callback, captured_in, bound_in, callback_start, site_of, with_site, site_number, event_names, either, callback_read, After}
 use Rattle.typed_program.specs.Courses.{runs, captures, listens, callback_sees}
 use Rattle.typed_program.specs.Mentions.{site_mentions, body_mentions, names_captured}
 use Rattle.typed_program.specs.Programs.{callback_names}

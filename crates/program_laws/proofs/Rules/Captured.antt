@@ -1,5 +1,6 @@
 -- The names that a callback takes along and those that are bound: what is visible where it begins.
-use Rattle.program_laws.proofs.Common.{◌≡◌, ℕ, zero, suc, ◌+◌, ◌<◌, ◌==◌, length, map, List, [], ◌∷◌, ◌++◌, Some, None, Bool, true, false, ◌&&◌, if◌then◌else◌, is_some, Option, refl, ap, sym, ◌∙◌, slice_get, arith, append_assoc, AllByRecursion, list_all, list_any, or_left, or_right, lt-ltb, eq-eqb, Local, taken_from, captured_from, bound_from, Mention, Kind, Held, Bound, Visible, visible_at, Seen, SeenKind, SeesName, kind_seen, is_outer, outer_kind}
+use Rattle.std.proofs.Common.{◌≡◌, ◌+◌, ◌<◌, ◌==◌, ◌∷◌, ◌++◌, ◌&&◌, if◌then◌else◌}
+use Rattle.program_laws.proofs.Common.{ℕ, zero, suc, length, map, List, [], Some, None, Bool, true, false, is_some, Option, refl, ap, sym, ◌∙◌, slice_get, arith, append_assoc, AllByRecursion, list_all, list_any, or_left, or_right, lt-ltb, eq-eqb, Local, taken_from, captured_from, bound_from, Mention, Kind, Held, Bound, Visible, visible_at, Seen, SeenKind, SeesName, kind_seen, is_outer, outer_kind}
 use Rattle.typed_program.specs.Courses.{ascend}
 use Rattle.typed_program.specs.Mentions.{all_named}
 use Rattle.typed_program.specs.Paths.{Free}

@@ -1,5 +1,6 @@
 -- Claims of parts whose conclusions also speak of the state behind the part, and how they are put together.
-use Rattle.program_laws.proofs.Common.{◌≡◌, ℕ, ◌≤◌, length, List, [], ◌∷◌, Option, Some, None, Spot, Shape, Found, State, scoped, left, After, Reads}
+use Rattle.std.proofs.Common.{◌≡◌, ◌≤◌, ◌∷◌}
+use Rattle.program_laws.proofs.Common.{ℕ, length, List, [], Option, Some, None, Spot, Shape, Found, State, scoped, left, After, Reads}
 use Rattle.stmt_check.specs.Steps.{◌>>=◌, pure, given, looks, reads_by, tells, within, before_all, optional}
 use Rattle.program_laws.proofs.Shapes.Frames.{Frame, Before, Fits, Claim, claim_bind, claim_pure, claim_given, claim_looks, claim_tells, claim_by, claim_as, claim_known}
 use Rattle.program_laws.proofs.Shapes.Locals.{scoped_claim}

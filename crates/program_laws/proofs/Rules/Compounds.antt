@@ -1,5 +1,6 @@
 -- Rows, blocks, `if` and `while`, where each part keeps the rules.
-use Rattle.program_laws.proofs.Common.{◌≡◌, ℕ, map, List, [], ◌∷◌, Some, None, Bool, true, Option, refl, option_map, IfSome, AllByRecursion, Shape, Expr, TypedExpr, Stmt, Reading, Mention, mentions, Visible, path_of, Mentioned, State, Around, in_loop, scoped, left, expr_names, either, any_of, if_any, exactly, reads, row_read, block_read, other_read, if_read, while_read}
+use Rattle.std.proofs.Common.{◌≡◌, ◌∷◌}
+use Rattle.program_laws.proofs.Common.{ℕ, map, List, [], Some, None, Bool, true, Option, refl, option_map, IfSome, AllByRecursion, Shape, Expr, TypedExpr, Stmt, Reading, Mention, mentions, Visible, path_of, Mentioned, State, Around, in_loop, scoped, left, expr_names, either, any_of, if_any, exactly, reads, row_read, block_read, other_read, if_read, while_read}
 use Rattle.epl_values.specs.declared.shape.Shape.TheVariants as shape
 use Rattle.typed_program.specs.declared.statement.Stmt.TheVariants as made
 use Rattle.typed_program.specs.declared.statement.Stmt.TheOpen as layer

@@ -1,5 +1,6 @@
 -- A row of statements ends with a `return` where the row that it is made of does.
-use Rattle.program_laws.proofs.Common.{◌≡◌, ℕ, map, List, [], ◌∷◌, Some, None, Bool, true, false, ◌&&◌, Option, refl, ap, ap₂, sym, subst, ◌∙◌, slice_get, Spot, Expr, Listening, StmtNode, StmtNode-F, Stmt-F, roll-StmtNode, roll-Stmt, fold-StmtNode, fold-Listening, fold-Stmt, fold-roll-StmtNode, fold-roll-Stmt, ind-Stmt, map-StmtNode, map-Stmt, TypedExpr, Stmt, ActionHead, Table, State, Around, NodePart, OnPart, node_part, on_part, stmt_part, row_read, spawned_read, channel_read, is_subscribe}
+use Rattle.std.proofs.Common.{◌≡◌, ◌∷◌, ◌&&◌}
+use Rattle.program_laws.proofs.Common.{ℕ, map, List, [], Some, None, Bool, true, false, Option, refl, ap, ap₂, sym, subst, ◌∙◌, slice_get, Spot, Expr, Listening, StmtNode, StmtNode-F, Stmt-F, roll-StmtNode, roll-Stmt, fold-StmtNode, fold-Listening, fold-Stmt, fold-roll-StmtNode, fold-roll-Stmt, ind-Stmt, map-StmtNode, map-Stmt, TypedExpr, Stmt, ActionHead, Table, State, Around, NodePart, OnPart, node_part, on_part, stmt_part, row_read, spawned_read, channel_read, is_subscribe}
 use Rattle.epl_tree.specs.declared.statement.Stmt.{Stmt as Tree}
 use Rattle.epl_tree.specs.declared.statement.StmtNode.TheOpen as stmt
 use Rattle.typed_program.specs.declared.statement.Stmt.{fold-Stmt as fold_made}

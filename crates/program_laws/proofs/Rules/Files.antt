@@ -1,5 +1,6 @@
 -- Declarations and files in order: all that is made of them keeps the rules.
-use Rattle.program_laws.proofs.Common.{◌≡◌, ℕ, ◌≤◌, length, List, [], ◌∷◌, ◌++◌, Some, true, is_some, refl, ap, sym, ◌∙◌, slice_get, arith, AllByRecursion, EventDecl, MonitorDecl, Global, Monitor, Program, monitor_lawful, action_lawful, initial_lawful, MonitorHead, Table, numbers, units_faults, units_gathered, none_gathered, globals_in, event_of, KnowsType, Made, short, members_read, monitor_of, files_faults, files_made, nothing_made}
+use Rattle.std.proofs.Common.{◌≡◌, ◌≤◌, ◌∷◌, ◌++◌}
+use Rattle.program_laws.proofs.Common.{ℕ, length, List, [], Some, true, is_some, refl, ap, sym, ◌∙◌, slice_get, arith, AllByRecursion, EventDecl, MonitorDecl, Global, Monitor, Program, monitor_lawful, action_lawful, initial_lawful, MonitorHead, Table, numbers, units_faults, units_gathered, none_gathered, globals_in, event_of, KnowsType, Made, short, members_read, monitor_of, files_faults, files_made, nothing_made}
 use Rattle.epl_tree.specs.declared.unit.Unit.{Unit as File}
 use Rattle.type_table.specs.Heads.{monitor_head}
 use Rattle.program_laws.proofs.Lawful.Rules.{LawRules}

@@ -1,5 +1,6 @@
 -- Statements without parts that are statements: where no fault is found, each keeps the rules.
-use Rattle.program_laws.proofs.Common.{◌≡◌, ℕ, List, [], true, false, not, Option, refl, not-false, Spot, Shape, Expr, Place, Visible, Event, Channel, Statement, like, Target, place_found, State, Around, when, none, expr_names, optional_names, place_names, either, exactly, asked, wanted, for_place, reads, print_read, log_read, route_read, send_read, call_read, assign_read, return_read, jump_read, return_codes, target_shape, maybe_read}
+use Rattle.std.proofs.Common.{◌≡◌}
+use Rattle.program_laws.proofs.Common.{ℕ, List, [], true, false, not, Option, refl, not-false, Spot, Shape, Expr, Place, Visible, Event, Channel, Statement, like, Target, place_found, State, Around, when, none, expr_names, optional_names, place_names, either, exactly, asked, wanted, for_place, reads, print_read, log_read, route_read, send_read, call_read, assign_read, return_read, jump_read, return_codes, target_shape, maybe_read}
 use Rattle.epl_values.specs.declared.shape.Shape.TheVariants as shape
 use Rattle.epl_tree.specs.declared.statement.Level.{Level}
 use Rattle.typed_program.specs.declared.statement.Stmt.TheVariants as made

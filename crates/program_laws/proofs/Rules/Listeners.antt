@@ -1,5 +1,6 @@
 -- Statements with listeners, where each listener keeps the rules.
-use Rattle.program_laws.proofs.Common.{◌≡◌, ℕ, List, [], Some, Bool, true, Spot, Shape, EventExpr, Name, Place, TypeExpr, TypedTerm, all_mention, Visible, type_found, Target, place_found, term_found, Mentioned, State, Around, bound_in, local_read, place_names, event_names, either, OnPart, on_codes, on_read, declare_on_read, assign_on_read, listen_read, callback_read, takes_listener, target_shape}
+use Rattle.std.proofs.Common.{◌≡◌}
+use Rattle.program_laws.proofs.Common.{ℕ, List, [], Some, Bool, true, Spot, Shape, EventExpr, Name, Place, TypeExpr, TypedTerm, all_mention, Visible, type_found, Target, place_found, term_found, Mentioned, State, Around, bound_in, local_read, place_names, event_names, either, OnPart, on_codes, on_read, declare_on_read, assign_on_read, listen_read, callback_read, takes_listener, target_shape}
 use Rattle.typed_program.specs.declared.statement.Stmt.TheVariants as made
 use Rattle.typed_program.specs.declared.statement.Stmt.TheOpen as layer
 use Rattle.type_table.specs.declared.scope.SeenKind.TheVariants as kind

@@ -1,5 +1,6 @@
 -- Names that are declared: each is visible by a number of its own from there on.
-use Rattle.program_laws.proofs.Common.{◌≡◌, ℕ, suc, ◌+◌, ◌≤◌, List, [], ◌∷◌, ◌++◌, Some, true, false, nat_le, is_some, Option, refl, sym, ap, subst, ◌∙◌, arith, list_any, Shape, Expr, Name, TypeExpr, Visible, Seen, SeenKind, told, seen_of, type_found, SeesName, is_barred, kind_seen, State, Around, when, short, local_codes, local_read, seen_local, with_local, none, expr_names, exactly, reads, declare_read, declare_as_read}
+use Rattle.std.proofs.Common.{◌≡◌, ◌+◌, ◌≤◌, ◌∷◌, ◌++◌}
+use Rattle.program_laws.proofs.Common.{ℕ, suc, List, [], Some, true, false, nat_le, is_some, Option, refl, sym, ap, subst, ◌∙◌, arith, list_any, Shape, Expr, Name, TypeExpr, Visible, Seen, SeenKind, told, seen_of, type_found, SeesName, is_barred, kind_seen, State, Around, when, short, local_codes, local_read, seen_local, with_local, none, expr_names, exactly, reads, declare_read, declare_as_read}
 use Rattle.typed_program.specs.declared.statement.Stmt.TheVariants as made
 use Rattle.typed_program.specs.declared.statement.Stmt.TheOpen as layer
 use Rattle.typed_program.specs.Courses.{with_local as with_visible}

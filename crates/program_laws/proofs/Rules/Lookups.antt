@@ -1,6 +1,6 @@
 -- The first item that passes a test, names that all differ, and numbers that are found among those visible.
-use Rattle.program_laws.proofs.Common.{◌≡◌, ℕ, zero, suc, ◌+◌, ◌<◌, ◌≤◌, ◌==◌, length, map, List, [], ◌∷◌, ◌++◌, Some, None, Bool, true, false, cond, ◌||◌, not, is_some, Option, refl, ap, sym, ◌∙◌, slice_get, nat_lt, arith, list_any, position_or_len, bytes_eq, nat_tests, bytes_eq-Decides, or_parts, or_from, eq-eqb, Visible, visible_at, Scope, Seen, seen_of, seen, item_at}
-use Rattle.std.proofs.Common.{position}
+use Rattle.program_laws.proofs.Common.{ℕ, zero, suc, length, map, List, [], Some, None, Bool, true, false, cond, not, is_some, Option, refl, ap, sym, ◌∙◌, slice_get, nat_lt, arith, list_any, position_or_len, bytes_eq, nat_tests, bytes_eq-Decides, or_parts, or_from, eq-eqb, Visible, visible_at, Scope, Seen, seen_of, seen, item_at}
+use Rattle.std.proofs.Common.{◌≡◌, ◌+◌, ◌<◌, ◌≤◌, ◌==◌, ◌∷◌, ◌++◌, ◌||◌, position}
 use Rattle.program_laws.proofs.Shapes.Lists.{none_isnt}
 use Rattle.program_laws.proofs.Shapes.Monitors.{lt_more, zero_lt}
 

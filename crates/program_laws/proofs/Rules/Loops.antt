@@ -1,5 +1,6 @@
 -- `for`: its variable is visible in the turns alone, and is one that holds what isn't changed.
-use Rattle.program_laws.proofs.Common.{◌≡◌, ℕ, suc, map, List, Bool, true, false, refl, sym, subst, AllByRecursion, list_any, Shape, Expr, Name, TypedExpr, Reading, shape_of, Mention, mentions, Held, Visible, path_of, Sequence, Mentioned, State, Around, in_loop, local_read, scoped, left, expr_names, either, any_of, asked, reads, row_read, for_read, turn_read}
+use Rattle.std.proofs.Common.{◌≡◌}
+use Rattle.program_laws.proofs.Common.{ℕ, suc, map, List, Bool, true, false, refl, sym, subst, AllByRecursion, list_any, Shape, Expr, Name, TypedExpr, Reading, shape_of, Mention, mentions, Held, Visible, path_of, Sequence, Mentioned, State, Around, in_loop, local_read, scoped, left, expr_names, either, any_of, asked, reads, row_read, for_read, turn_read}
 use Rattle.typed_program.specs.declared.statement.Stmt.TheVariants as made
 use Rattle.typed_program.specs.declared.statement.Stmt.TheOpen as layer
 use Rattle.typed_program.specs.Courses.{with_local as with_visible}

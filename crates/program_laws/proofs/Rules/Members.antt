@@ -1,5 +1,6 @@
 -- The members of a monitor in order: what its globals begin with and its actions keep the rules.
-use Rattle.program_laws.proofs.Common.{◌≡◌, ℕ, ◌+◌, ◌≤◌, ◌==◌, length, map, List, [], ◌∷◌, ◌++◌, Some, None, Bool, true, false, ◌&&◌, ◌||◌, not, nat_le, is_some, Option, refl, ap, sym, subst, ◌∙◌, slice_get, arith, append_assoc, AllByRecursion, not-false, Shape, Expr, TypeExpr, ActionDecl, GlobalDecl, Member, TypedExpr, Action, Global, Program, Site, action_lawful, initial_lawful, Table, actions_from, globals_in, result_head, event_of, type_found, result_given, KnowsType, gives_result, SeesNamed, Made, action_of, action_read, actions_before, body_around, body_start, member_codes, short, when, is_special, expr_names, ends_with_return, global_read, members_read, exactly, row_read}
+use Rattle.std.proofs.Common.{◌≡◌, ◌+◌, ◌≤◌, ◌==◌, ◌∷◌, ◌++◌, ◌&&◌, ◌||◌}
+use Rattle.program_laws.proofs.Common.{ℕ, length, map, List, [], Some, None, Bool, true, false, not, nat_le, is_some, Option, refl, ap, sym, subst, ◌∙◌, slice_get, arith, append_assoc, AllByRecursion, not-false, Shape, Expr, TypeExpr, ActionDecl, GlobalDecl, Member, TypedExpr, Action, Global, Program, Site, action_lawful, initial_lawful, Table, actions_from, globals_in, result_head, event_of, type_found, result_given, KnowsType, gives_result, SeesNamed, Made, action_of, action_read, actions_before, body_around, body_start, member_codes, short, when, is_special, expr_names, ends_with_return, global_read, members_read, exactly, row_read}
 use Rattle.epl_tree.specs.declared.unit.Member.TheVariants as member
 use Rattle.typed_program.specs.Rules.{nothing_visible}
 use Rattle.type_table.specs.Heads.{action_head}

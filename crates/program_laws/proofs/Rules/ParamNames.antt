@@ -1,5 +1,6 @@
 -- The parameters of an action in which no fault is found: their names differ from one another and from those of globals.
-use Rattle.program_laws.proofs.Common.{◌≡◌, ℕ, map, List, [], ◌∷◌, ◌++◌, false, ◌||◌, length, nat_le, refl, ap, sym, subst, ◌∙◌, append_assoc, AllByRecursion, list_any, bytes_eq, or_parts, or_from, ActionDecl, Member, Param, GlobalHead, ParamHead, Table, told, param_head, globals_in, event_of, type_found, Made, is_param_named, is_global_named, param_codes, param_read, action_read, when}
+use Rattle.std.proofs.Common.{◌≡◌, ◌∷◌, ◌++◌, ◌||◌}
+use Rattle.program_laws.proofs.Common.{ℕ, map, List, [], false, length, nat_le, refl, ap, sym, subst, ◌∙◌, append_assoc, AllByRecursion, list_any, bytes_eq, or_parts, or_from, ActionDecl, Member, Param, GlobalHead, ParamHead, Table, told, param_head, globals_in, event_of, type_found, Made, is_param_named, is_global_named, param_codes, param_read, action_read, when}
 use Rattle.epl_tree.specs.declared.unit.Member.TheVariants as member
 use Rattle.stmt_check.specs.Actions.{is_global, params_found, action_codes}
 use Rattle.stmt_check.specs.Steps.{◌>>=◌, pure, given, tells, changes, before_all, each}

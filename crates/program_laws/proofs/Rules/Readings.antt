@@ -1,5 +1,6 @@
 -- Expressions, places and arguments where a body is read: they keep the rules there, and mention what they name.
-use Rattle.program_laws.proofs.Common.{◌≡◌, ℕ, map, List, [], Some, None, Bool, true, false, ◌||◌, Option, refl, ap, sym, subst, ◌∙◌, list_all, or_left, or_right, append-nil, Shape, Expr, Place, Stmt, Reading, assigns, Mention, mentions, all_mention, place_mentions, Visible, path_of, special_in, Scope, Seen, ParamHead, Demand, Wish, typed_arguments, seen, place_found, expr_found, permitted, Mentioned, is_barred, State, Around, none, either, expr_names, place_names, exprs_name, optional_names, asked, reads, args_read, maybe_read}
+use Rattle.std.proofs.Common.{◌≡◌, ◌||◌}
+use Rattle.program_laws.proofs.Common.{ℕ, map, List, [], Some, None, Bool, true, false, Option, refl, ap, sym, subst, ◌∙◌, list_all, or_left, or_right, append-nil, Shape, Expr, Place, Stmt, Reading, assigns, Mention, mentions, all_mention, place_mentions, Visible, path_of, special_in, Scope, Seen, ParamHead, Demand, Wish, typed_arguments, seen, place_found, expr_found, permitted, Mentioned, is_barred, State, Around, none, either, expr_names, place_names, exprs_name, optional_names, asked, reads, args_read, maybe_read}
 use Rattle.typed_program.specs.declared.statement.Stmt.TheOpen.{Stmt-F}
 use Rattle.typed_program.specs.declared.statement.Stmt.TheViews.{roll-Stmt}
 use Rattle.typed_program.specs.declared.statement.Stmt.TheFolds.{fold-roll-Stmt, map-Stmt}

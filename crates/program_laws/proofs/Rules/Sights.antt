@@ -1,5 +1,6 @@
 -- What is visible while a body is read, in its text and by number, and what a part leaves visible.
-use Rattle.program_laws.proofs.Common.{◌≡◌, ℕ, ◌+◌, ◌<◌, ◌≤◌, ◌==◌, length, take, List, [], ◌∷◌, ◌++◌, Some, Bool, true, false, refl, sym, ap, subst, ◌∙◌, slice_get, arith, append_assoc, AllByRecursion, list_any, bytes_eq-Decides, append-nil, Shape, Stmt, Reading, Mention, Visible, Sight, special_in, Scope, Seen, SeenKind, ActionHead, Table, is_callback, seen, KnowsName, KnowsTable, KnowsNamed, SeesName, SeesNamed, KeepsSpecial, Mentioned, is_barred, State, Around, left}
+use Rattle.std.proofs.Common.{◌≡◌, ◌+◌, ◌<◌, ◌≤◌, ◌==◌, ◌∷◌, ◌++◌}
+use Rattle.program_laws.proofs.Common.{ℕ, length, take, List, [], Some, Bool, true, false, refl, sym, ap, subst, ◌∙◌, slice_get, arith, append_assoc, AllByRecursion, list_any, bytes_eq-Decides, append-nil, Shape, Stmt, Reading, Mention, Visible, Sight, special_in, Scope, Seen, SeenKind, ActionHead, Table, is_callback, seen, KnowsName, KnowsTable, KnowsNamed, SeesName, SeesNamed, KeepsSpecial, Mentioned, is_barred, State, Around, left}
 use Rattle.typed_program.specs.Courses.{reading_of}
 use Rattle.typed_program.specs.Mentions.{stmt_mentions}
 use Rattle.typed_program.specs.Rules.{callback_lawful}

@@ -1,5 +1,6 @@
 -- `spawn` and the calls of a monitor: where no fault is found, an action that isn't called is not begun.
-use Rattle.program_laws.proofs.Common.{◌≡◌, ℕ, length, map, List, [], ◌∷◌, Some, None, Bool, true, false, ◌||◌, not, ◌==◌, if◌then◌else◌, Option, refl, ap, sym, ◌∙◌, slice_get, arith, codes, list_any, bytes_eq, nat_tests, or_parts, Spot, Shape, Expr, TypedExpr, Mention, mentions, Visible, path_of, special_in, Scope, ActionHead, Exactly, is_callback, Mentioned, State, Around, when, is_special, expr_names, exprs_name, optional_names, either, any_of, exactly, reads, args_read, maybe_read, begun_read, spawned_read, spawn_read, spawn_codes, has_result, control, control_codes, channel_read, monitor_read, is_subscribe}
+use Rattle.std.proofs.Common.{◌≡◌, ◌∷◌, ◌||◌, ◌==◌, if◌then◌else◌}
+use Rattle.program_laws.proofs.Common.{ℕ, length, map, List, [], Some, None, Bool, true, false, not, Option, refl, ap, sym, ◌∙◌, slice_get, arith, codes, list_any, bytes_eq, nat_tests, or_parts, Spot, Shape, Expr, TypedExpr, Mention, mentions, Visible, path_of, special_in, Scope, ActionHead, Exactly, is_callback, Mentioned, State, Around, when, is_special, expr_names, exprs_name, optional_names, either, any_of, exactly, reads, args_read, maybe_read, begun_read, spawned_read, spawn_read, spawn_codes, has_result, control, control_codes, channel_read, monitor_read, is_subscribe}
 use Rattle.epl_values.specs.declared.shape.Shape.TheVariants as shape
 use Rattle.typed_program.specs.declared.statement.Stmt.TheVariants as made
 use Rattle.typed_program.specs.declared.statement.Stmt.TheOpen as layer

@@ -1,5 +1,6 @@
 -- Actions of other names than `onload` and `ondie` have other numbers than those.
-use Rattle.program_laws.proofs.Common.{◌≡◌, ℕ, ◌+◌, ◌==◌, length, List, [], ◌∷◌, Some, None, Bool, true, false, ◌||◌, Option, refl, ap, sym, ◌∙◌, slice_get, arith, codes, list_any, bytes_eq, bytes_eq-Decides, or_parts, or_from, eqb-true, Member, MonitorDecl, Monitor, Program, special_in, ActionHead, MonitorHead, Table, actions_from, has_onload, event_of, is_callback, Made, action_in, action_number, or_zero}
+use Rattle.std.proofs.Common.{◌≡◌, ◌+◌, ◌==◌, ◌∷◌, ◌||◌}
+use Rattle.program_laws.proofs.Common.{ℕ, length, List, [], Some, None, Bool, true, false, Option, refl, ap, sym, ◌∙◌, slice_get, arith, codes, list_any, bytes_eq, bytes_eq-Decides, or_parts, or_from, eqb-true, Member, MonitorDecl, Monitor, Program, special_in, ActionHead, MonitorHead, Table, actions_from, has_onload, event_of, is_callback, Made, action_in, action_number, or_zero}
 use Rattle.epl_tree.specs.declared.unit.Member.TheVariants as member
 use Rattle.typed_program.specs.Rules.{specials, list_of}
 use Rattle.type_table.specs.Heads.{monitor_head}

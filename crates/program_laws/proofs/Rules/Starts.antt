@@ -1,6 +1,7 @@
 -- Where a callback begins: the names that it takes along and those that are bound are visible by their places, and what it
 -- names it takes along.
-use Rattle.program_laws.proofs.Common.{◌≡◌, ℕ, ◌+◌, ◌≤◌, ◌==◌, length, map, List, [], ◌∷◌, ◌++◌, Some, Bool, true, false, ◌&&◌, not, Option, refl, ap, sym, subst, ◌∙◌, slice_get, arith, AllByRecursion, list_any, slice_get_within, not-true, and_parts, length-map, Shape, EventExpr, Local, TypedTerm, taken_from, captured_from, bound_from, Mention, Bound, Visible, visible_at, Seen, SeenKind, seen, is_known_reference, KnowsName, SeesName, Mentioned, kind_seen, is_outer, is_barred, State, Around, short, captured_in, bound_in, callback_start, known_shape, outer_kind, bound_seen, place_among}
+use Rattle.std.proofs.Common.{◌≡◌, ◌+◌, ◌≤◌, ◌==◌, ◌∷◌, ◌++◌, ◌&&◌}
+use Rattle.program_laws.proofs.Common.{ℕ, length, map, List, [], Some, Bool, true, false, not, Option, refl, ap, sym, subst, ◌∙◌, slice_get, arith, AllByRecursion, list_any, slice_get_within, not-true, and_parts, length-map, Shape, EventExpr, Local, TypedTerm, taken_from, captured_from, bound_from, Mention, Bound, Visible, visible_at, Seen, SeenKind, seen, is_known_reference, KnowsName, SeesName, Mentioned, kind_seen, is_outer, is_barred, State, Around, short, captured_in, bound_in, callback_start, known_shape, outer_kind, bound_seen, place_among}
 use Rattle.typed_program.specs.Shapes.{is_reference}
 use Rattle.type_table.specs.declared.scope.SeenKind.TheVariants as kind
 use Rattle.expr_rules.specs.Places.{is_global}

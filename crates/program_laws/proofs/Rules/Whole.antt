@@ -1,5 +1,6 @@
 -- The program of files in which no fault is found keeps the rules.
-use Rattle.program_laws.proofs.Common.{◌≡◌, ℕ, map, List, Some, refl, ap, sym, ◌∙◌, slice_get, arith, EventShape, Monitor, Program, Site, monitor_lawful, action_lawful, event_shape, numbers, kinds_of, names_of, IsProgram, made_of, nothing_made}
+use Rattle.std.proofs.Common.{◌≡◌}
+use Rattle.program_laws.proofs.Common.{ℕ, map, List, Some, refl, ap, sym, ◌∙◌, slice_get, arith, EventShape, Monitor, Program, Site, monitor_lawful, action_lawful, event_shape, numbers, kinds_of, names_of, IsProgram, made_of, nothing_made}
 use Rattle.epl_tree.specs.declared.unit.Unit.{Unit as File}
 use Rattle.typed_program.specs.Rules.{KeepsRules}
 use Rattle.program_laws.proofs.Lawful.Rules.{LawRules}

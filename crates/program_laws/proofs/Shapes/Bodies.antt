@@ -1,5 +1,6 @@
 -- The body of an action: what is visible where it begins, and that it holds.
-use Rattle.program_laws.proofs.Common.{◌≡◌, ℕ, suc, ◌+◌, ◌≤◌, min, length, map, List, [], ◌∷◌, ◌++◌, Some, None, Bool, true, false, cond, if◌then◌else◌, ◌&&◌, not, is_some, Option, refl, ap, sym, subst, ◌∙◌, slice_get, arith, filter, AllByRecursion, list_all, filter-append, and_parts, Shape, Program, Site, Stmt, names_in, global_shapes, is_there, action_so, stands, Seen, ActionHead, GlobalHead, MonitorHead, ParamHead, Table, global_seen, globals_after, params_from, param_wants, KnowsName, KnowsAction, KnowsType, result_stands, State, Around, short, action_in, row_read, After}
+use Rattle.std.proofs.Common.{◌≡◌, ◌+◌, ◌≤◌, ◌∷◌, ◌++◌, if◌then◌else◌, ◌&&◌}
+use Rattle.program_laws.proofs.Common.{ℕ, suc, min, length, map, List, [], Some, None, Bool, true, false, cond, not, is_some, Option, refl, ap, sym, subst, ◌∙◌, slice_get, arith, filter, AllByRecursion, list_all, filter-append, and_parts, Shape, Program, Site, Stmt, names_in, global_shapes, is_there, action_so, stands, Seen, ActionHead, GlobalHead, MonitorHead, ParamHead, Table, global_seen, globals_after, params_from, param_wants, KnowsName, KnowsAction, KnowsType, result_stands, State, Around, short, action_in, row_read, After}
 use Rattle.epl_tree.specs.declared.statement.Stmt.{Stmt as Tree}
 use Rattle.type_table.specs.Scopes.{place_in, with_global, action_names, start_names, start_of}
 use Rattle.type_table.specs.Table.{action_of}

@@ -1,5 +1,6 @@
 -- A listener: its site stands at its number, and its callback holds behind the names that it takes along.
-use Rattle.program_laws.proofs.Common.{◌≡◌, ℕ, ◌+◌, ◌≤◌, length, map, List, ◌++◌, Some, None, true, refl, ap, sym, ◌∙◌, slice_get, arith, insert, list_all, eq-eqb, length-insert, Shape, EventExpr, Site, TypedTerm, Stmt, if_known, names_in, callback_params, is_there, site_so, stands, Body, stmt_holds, State, Around, in_callback, known_shape, captured_in, bound_in, callback_start, site_of, with_site, site_number, callback_read, After}
+use Rattle.std.proofs.Common.{◌≡◌, ◌+◌, ◌≤◌, ◌++◌}
+use Rattle.program_laws.proofs.Common.{ℕ, length, map, List, Some, None, true, refl, ap, sym, ◌∙◌, slice_get, arith, insert, list_all, eq-eqb, length-insert, Shape, EventExpr, Site, TypedTerm, Stmt, if_known, names_in, callback_params, is_there, site_so, stands, Body, stmt_holds, State, Around, in_callback, known_shape, captured_in, bound_in, callback_start, site_of, with_site, site_number, callback_read, After}
 use Rattle.typed_program.specs.Programs.{callback_body, all_stand}
 use Rattle.typed_program.specs.Statements.{listens, site_so as at_site}
 use Rattle.stmt_check.specs.Captures.{Names as Named}

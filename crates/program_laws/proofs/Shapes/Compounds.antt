@@ -1,5 +1,6 @@
 -- Statements with parts, where each part is as it should be.
-use Rattle.program_laws.proofs.Common.{◌≡◌, ℕ, suc, ◌+◌, ◌<◌, length, map, List, [], ◌∷◌, Some, None, Bool, true, false, ◌&&◌, ◌||◌, not, nat_le, Option, refl, ap, sym, ◌∙◌, slice_get, arith, option_map, IfSome, AllByRecursion, or_parts, not-false, and_parts, leb-false, Spot, Shape, Shape-F, out-Shape, EventShape, EventExpr, Expr, Name, Place, TypeExpr, TypedExpr, TypedTerm, Stmt, Names, Checked, Paired, Stepping, node_so, step_so, entry_so, expr_so, link_so, suffix_so, holds, if_known, may_stand, shape_of, stands, same, is_sequence_layer, Body, stmt_holds, passes, is_local, type_found, Sequence, Target, place_found, answers, wished, term_found, State, Around, in_loop, local_read, scoped, known_shape, when, bound_in, expr_names, place_names, event_names, either, any_of, if_any, OnPart, exactly, asked, reads, row_read, block_read, other_read, if_read, while_read, for_read, turn_read, on_read, declare_on_read, assign_on_read, listen_read, callback_read, on_codes, takes_listener, target_shape}
+use Rattle.std.proofs.Common.{◌≡◌, ◌+◌, ◌<◌, ◌∷◌, ◌&&◌, ◌||◌}
+use Rattle.program_laws.proofs.Common.{ℕ, suc, length, map, List, [], Some, None, Bool, true, false, not, nat_le, Option, refl, ap, sym, ◌∙◌, slice_get, arith, option_map, IfSome, AllByRecursion, or_parts, not-false, and_parts, leb-false, Spot, Shape, Shape-F, out-Shape, EventShape, EventExpr, Expr, Name, Place, TypeExpr, TypedExpr, TypedTerm, Stmt, Names, Checked, Paired, Stepping, node_so, step_so, entry_so, expr_so, link_so, suffix_so, holds, if_known, may_stand, shape_of, stands, same, is_sequence_layer, Body, stmt_holds, passes, is_local, type_found, Sequence, Target, place_found, answers, wished, term_found, State, Around, in_loop, local_read, scoped, known_shape, when, bound_in, expr_names, place_names, event_names, either, any_of, if_any, OnPart, exactly, asked, reads, row_read, block_read, other_read, if_read, while_read, for_read, turn_read, on_read, declare_on_read, assign_on_read, listen_read, callback_read, on_codes, takes_listener, target_shape}
 use Rattle.epl_values.specs.declared.shape.Shape.TheVariants as shape
 use Rattle.epl_values.specs.declared.shape.Shape.TheOpen as shape_layer
 use Rattle.epl_values.specs.declared.shape.Shape.TheViews.{roll-Shape, roll-out-Shape}

@@ -1,5 +1,6 @@
 -- An event expression without faults has its shapes, where those visible names are known that it names.
-use Rattle.program_laws.proofs.Common.{◌≡◌, ℕ, suc, ◌≤◌, Bool, true, ◌&&◌, List, [], ◌∷◌, map, length, drop, Option, Some, None, is_some, refl, sym, ap, ap₂, subst, ◌∙◌, AllByRecursion, list_all, find, bytes_eq, drop-append_seam, lt-ltb, bytes_eq-Decides, Shape, EventExpr, TypedExpr, Local, stands, Names, holds, shape_of, if_known, Scope, Seen, Table, local_of, local_shape, term_found, KnowsTable, KnowsName, bound_in, known_shape, event_names}
+use Rattle.std.proofs.Common.{◌≡◌, ◌≤◌, ◌&&◌, ◌∷◌}
+use Rattle.program_laws.proofs.Common.{ℕ, suc, Bool, true, List, [], map, length, drop, Option, Some, None, is_some, refl, sym, ap, ap₂, subst, ◌∙◌, AllByRecursion, list_all, find, bytes_eq, drop-append_seam, lt-ltb, bytes_eq-Decides, Shape, EventExpr, TypedExpr, Local, stands, Names, holds, shape_of, if_known, Scope, Seen, Table, local_of, local_shape, term_found, KnowsTable, KnowsName, bound_in, known_shape, event_names}
 use Rattle.std.specs.Prelude.{cond, false}
 use Rattle.epl_values.specs.declared.shape.Shape.TheVariants as shape
 use Rattle.program_laws.specs.Known as known

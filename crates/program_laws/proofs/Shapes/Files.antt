@@ -1,5 +1,6 @@
 -- Declarations and files in order: all that is made of them holds.
-use Rattle.program_laws.proofs.Common.{◌≡◌, ℕ, ◌≤◌, length, map, List, [], ◌∷◌, ◌++◌, Some, true, is_some, refl, ap, sym, ◌∙◌, slice_get, arith, AllByRecursion, EventDecl, MonitorDecl, Monitor, Program, monitor_so, action_so, Table, numbers, units_faults, units_gathered, none_gathered, names_of, number_in, EventShape, event_of, KnowsType, Made, short, members_read, monitor_of, files_faults, files_made, nothing_made}
+use Rattle.std.proofs.Common.{◌≡◌, ◌≤◌, ◌∷◌, ◌++◌}
+use Rattle.program_laws.proofs.Common.{ℕ, length, map, List, [], Some, true, is_some, refl, ap, sym, ◌∙◌, slice_get, arith, AllByRecursion, EventDecl, MonitorDecl, Monitor, Program, monitor_so, action_so, Table, numbers, units_faults, units_gathered, none_gathered, names_of, number_in, EventShape, event_of, KnowsType, Made, short, members_read, monitor_of, files_faults, files_made, nothing_made}
 use Rattle.epl_tree.specs.declared.unit.Unit.{Unit as File}
 use Rattle.program_laws.proofs.Shapes.Bodies.{world_of}
 use Rattle.program_laws.proofs.Shapes.Frames.{SitesHold, sites_both, sites_none}

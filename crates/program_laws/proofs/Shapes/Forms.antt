@@ -1,5 +1,6 @@
 -- Statements without parts that are statements: where no fault is found, what is made of each holds.
-use Rattle.program_laws.proofs.Common.{◌≡◌, ℕ, List, [], Some, None, Bool, true, false, not, Option, refl, ap, sym, subst, ◌∙◌, slice_get, is_some, if◌then◌else◌, IfSome, or_right, and_parts, Spot, Shape, EventShape, Expr, Name, Place, TypeExpr, TypedExpr, Stmt, if_known, holds, same, Body, stmt_holds, is_local, type_found, Exactly, Statement, Event, Channel, like, Target, place_found, answers, wish_stands, result_stands, State, Around, when, local_read, expr_names, optional_names, place_names, either, exactly, asked, wanted, for_place, reads, print_read, log_read, route_read, send_read, call_read, declare_read, declare_as_read, assign_read, return_read, jump_read, return_codes, target_shape, maybe_read}
+use Rattle.std.proofs.Common.{◌≡◌, if◌then◌else◌}
+use Rattle.program_laws.proofs.Common.{ℕ, List, [], Some, None, Bool, true, false, not, Option, refl, ap, sym, subst, ◌∙◌, slice_get, is_some, IfSome, or_right, and_parts, Spot, Shape, EventShape, Expr, Name, Place, TypeExpr, TypedExpr, Stmt, if_known, holds, same, Body, stmt_holds, is_local, type_found, Exactly, Statement, Event, Channel, like, Target, place_found, answers, wish_stands, result_stands, State, Around, when, local_read, expr_names, optional_names, place_names, either, exactly, asked, wanted, for_place, reads, print_read, log_read, route_read, send_read, call_read, declare_read, declare_as_read, assign_read, return_read, jump_read, return_codes, target_shape, maybe_read}
 use Rattle.epl_values.specs.declared.shape.Shape.TheVariants as shape
 use Rattle.epl_tree.specs.declared.statement.Level.{Level}
 use Rattle.typed_program.specs.declared.statement.Stmt.TheVariants as made

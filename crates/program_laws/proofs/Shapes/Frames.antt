@@ -1,5 +1,6 @@
 -- A body while it is read: what its state says, what the finished program must have for it, and what then holds of a part.
-use Rattle.program_laws.proofs.Common.{◌≡◌, ℕ, ◌+◌, ◌<◌, ◌≤◌, length, List, [], Some, true, Option, refl, sym, subst, arith, slice_get, AllByRecursion, list_all, inl, inr, cases_lt, Spot, Shape, Program, Site, Names, names_in, site_so, is_there, stands, Body, Scope, ActionHead, Table, Found, KnowsName, KnowsAction, KnowsType, action_named, State, captured_in, After, Reads}
+use Rattle.std.proofs.Common.{◌≡◌, ◌+◌, ◌<◌, ◌≤◌}
+use Rattle.program_laws.proofs.Common.{ℕ, length, List, [], Some, true, Option, refl, sym, subst, arith, slice_get, AllByRecursion, list_all, inl, inr, cases_lt, Spot, Shape, Program, Site, Names, names_in, site_so, is_there, stands, Body, Scope, ActionHead, Table, Found, KnowsName, KnowsAction, KnowsType, action_named, State, captured_in, After, Reads}
 use Rattle.std.specs.Prelude.{◌⊎◌}
 use Rattle.stmt_check.specs.Bodies.{action_named as head_named}
 use Rattle.stmt_check.specs.Captures.{Names as Named}

@@ -1,5 +1,6 @@
 -- What a member leaves where no fault is found in it: its type, its parameters and its result are those of its head.
-use Rattle.program_laws.proofs.Common.{◌≡◌, ℕ, ◌+◌, ◌<◌, ◌≤◌, length, map, List, [], ◌∷◌, ◌++◌, Some, None, true, ◌||◌, nat_le, Option, refl, ap, sym, ◌∙◌, arith, option_map, list_all, list_any, length-append, leb-false, Shape, EventShape, TypeExpr, Member, Param, stands, Fault, Table, told, param_head, result_head, event_of, type_found, type_by, param_wants, result_given, gives_result, result_stands, param_codes, param_read, is_param_named, is_global_named, when, After, Reads}
+use Rattle.std.proofs.Common.{◌≡◌, ◌+◌, ◌<◌, ◌≤◌, ◌∷◌, ◌++◌, ◌||◌}
+use Rattle.program_laws.proofs.Common.{ℕ, length, map, List, [], Some, None, true, nat_le, Option, refl, ap, sym, ◌∙◌, arith, option_map, list_all, list_any, length-append, leb-false, Shape, EventShape, TypeExpr, Member, Param, stands, Fault, Table, told, param_head, result_head, event_of, type_found, type_by, param_wants, result_given, gives_result, result_stands, param_codes, param_read, is_param_named, is_global_named, when, After, Reads}
 use Rattle.type_table.specs.Heads.{result_known}
 use Rattle.type_table.specs.Types.{known, known_shape}
 use Rattle.stmt_check.specs.Actions.{params_found}

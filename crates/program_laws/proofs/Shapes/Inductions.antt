@@ -1,5 +1,6 @@
 -- Induction over statements: what each form has where its parts have it, every statement has.
-use Rattle.program_laws.proofs.Common.{map, List, [], ◌∷◌, sym, subst, AllByRecursion, Listening, StmtNode, StmtNode-F, Stmt-F, roll-StmtNode, roll-Stmt, fold-StmtNode, fold-Listening, fold-Stmt, fold-roll-StmtNode, fold-roll-Stmt, ind-Stmt, map-StmtNode, map-Stmt, NodePart, OnPart, node_part, on_part, stmt_part}
+use Rattle.std.proofs.Common.{◌∷◌}
+use Rattle.program_laws.proofs.Common.{map, List, [], sym, subst, AllByRecursion, Listening, StmtNode, StmtNode-F, Stmt-F, roll-StmtNode, roll-Stmt, fold-StmtNode, fold-Listening, fold-Stmt, fold-roll-StmtNode, fold-roll-Stmt, ind-Stmt, map-StmtNode, map-Stmt, NodePart, OnPart, node_part, on_part, stmt_part}
 use Rattle.epl_tree.specs.declared.statement.Stmt.{Stmt as Tree}
 use Rattle.epl_tree.specs.declared.statement.StmtNode.TheOpen.{Listening-F}
 use Rattle.epl_tree.specs.declared.statement.StmtNode.TheViews.{roll-Listening}

@@ -1,5 +1,6 @@
 -- The event types of files without a fault: there are few, their fields stand, and no context and no listener is in them.
-use Rattle.program_laws.proofs.Common.{◌≡◌, ℕ, ◌+◌, ◌<◌, ◌≤◌, min, length, map, List, [], ◌∷◌, ◌++◌, Some, None, Bool, true, false, ◌&&◌, ◌||◌, not, nat_le, nat_lt, if◌then◌else◌, Option, refl, ap, sym, subst, ◌∙◌, arith, AllByRecursion, list_all, bytes_eq, length-append, length-map, position-Some, or_parts, or_from, leb-false, Spot, Shape, EventShape, Field, fold-roll-Shape, TypeExpr, TypeNode, TypeNode-F, roll-TypeNode, roll-TypeExpr, fold-TypeNode, fold-roll-TypeNode, fold-roll-TypeExpr, ind-TypeExpr, map-TypeNode, Declaration, EventDecl, FieldDecl, Program, stands, holds_link, Gathered, met, met_node, met_step, contains_itself, Found, told, numbers, count_of, field_faults, fields_faults, event_faults, declaration_faults, faults_from, gathered_after, with_event, with_monitor, units_faults, none_gathered, event_shape, in_file, declarations_of, names_of, with_kind, kinds_after, kinds_of, has_name, Written, node_found, written_step, written_of, type_by, KnowsType}
+use Rattle.std.proofs.Common.{◌≡◌, ◌+◌, ◌<◌, ◌≤◌, ◌∷◌, ◌++◌, ◌&&◌, ◌||◌, if◌then◌else◌}
+use Rattle.program_laws.proofs.Common.{ℕ, min, length, map, List, [], Some, None, Bool, true, false, not, nat_le, nat_lt, Option, refl, ap, sym, subst, ◌∙◌, arith, AllByRecursion, list_all, bytes_eq, length-append, length-map, position-Some, or_parts, or_from, leb-false, Spot, Shape, EventShape, Field, fold-roll-Shape, TypeExpr, TypeNode, TypeNode-F, roll-TypeNode, roll-TypeExpr, fold-TypeNode, fold-roll-TypeNode, fold-roll-TypeExpr, ind-TypeExpr, map-TypeNode, Declaration, EventDecl, FieldDecl, Program, stands, holds_link, Gathered, met, met_node, met_step, contains_itself, Found, told, numbers, count_of, field_faults, fields_faults, event_faults, declaration_faults, faults_from, gathered_after, with_event, with_monitor, units_faults, none_gathered, event_shape, in_file, declarations_of, names_of, with_kind, kinds_after, kinds_of, has_name, Written, node_found, written_step, written_of, type_by, KnowsType}
 use Rattle.epl_values.specs.declared.shape.Shape.TheVariants as shape
 use Rattle.epl_values.specs.declared.shape.Shape.TheOpen as layer
 use Rattle.epl_tree.specs.declared.types.TypeNode.TheOpen as node

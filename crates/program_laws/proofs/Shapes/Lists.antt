@@ -1,5 +1,6 @@
 -- Lists place by place: what a longer list keeps of a shorter one, and what holds of each item.
-use Rattle.program_laws.proofs.Common.{◌≡◌, ℕ, zero, suc, ◌+◌, ◌<◌, ◌≤◌, length, take, map, List, [], ◌∷◌, ◌++◌, Some, None, Bool, true, false, cond, if◌then◌else◌, ◌&&◌, refl, sym, ap, subst, ◌∙◌, arith, slice_get, insert, filter, inl, inr, AllByRecursion, list_all, length-insert, slice_get_within, and_parts, cases_lt, Spot, told, when}
+use Rattle.std.proofs.Common.{◌≡◌, ◌+◌, ◌<◌, ◌≤◌, ◌∷◌, ◌++◌, if◌then◌else◌, ◌&&◌}
+use Rattle.program_laws.proofs.Common.{ℕ, zero, suc, length, take, map, List, [], Some, None, Bool, true, false, cond, refl, sym, ap, subst, ◌∙◌, arith, slice_get, insert, filter, inl, inr, AllByRecursion, list_all, length-insert, slice_get_within, and_parts, cases_lt, Spot, told, when}
 use Rattle.std.specs.Prelude.{◌⊎◌}
 
 -- ---- truths

@@ -1,6 +1,6 @@
 -- Names that are declared, the locals that they stand for, and what is visible behind a block.
-use Rattle.program_laws.proofs.Common.{◌≡◌, ℕ, suc, ◌+◌, ◌<◌, ◌≤◌, length, List, [], ◌∷◌, ◌++◌, Some, None, true, not, ◌&&◌, Option, refl, sym, ap, subst, ◌∙◌, arith, slice_get, nat_le, is_some, AllByRecursion, filter-append, leb-false, Shape, EventShape, Name, Names, stands, Seen, SeenKind, told, seen_of, KnowsName, by_number, State, when, short, known_shape, local_codes, local_read, seen_local, with_local, scoped, captured_in, left, Reads}
-use Rattle.std.proofs.Common.{length-append}
+use Rattle.program_laws.proofs.Common.{ℕ, suc, length, List, [], Some, None, true, not, Option, refl, sym, ap, subst, ◌∙◌, arith, slice_get, nat_le, is_some, AllByRecursion, filter-append, leb-false, Shape, EventShape, Name, Names, stands, Seen, SeenKind, told, seen_of, KnowsName, by_number, State, when, short, known_shape, local_codes, local_read, seen_local, with_local, scoped, captured_in, left, Reads}
+use Rattle.std.proofs.Common.{◌≡◌, ◌+◌, ◌<◌, ◌≤◌, ◌∷◌, ◌++◌, ◌&&◌, length-append}
 use Rattle.std.specs.Prelude.{IfSome}
 use Rattle.stmt_check.specs.Bodies.{counted, name_read, is_global}
 use Rattle.stmt_check.specs.Steps.{◌>>=◌, pure, tells, changes, within, before_all, each, optional}

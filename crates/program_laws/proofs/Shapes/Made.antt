@@ -1,5 +1,6 @@
 -- Statements that are made, and what is asked of them: the equation of each form, and what an expression's answer says there.
-use Rattle.program_laws.proofs.Common.{◌≡◌, List, [], ◌∷◌, Some, None, Bool, true, false, Option, refl, ap, sym, ◌∙◌, AllByRecursion, and_parts, Shape, Shape-F, out-Shape, roll-Shape, TypedExpr, Stmt, Names, Checked, Paired, Stepping, node_so, step_so, entry_so, expr_so, link_so, suffix_so, if_known, checked, holds, shape_of, Body, stmt_holds, passes, Wish, Event, Channel, answers, wished}
+use Rattle.std.proofs.Common.{◌≡◌, ◌∷◌}
+use Rattle.program_laws.proofs.Common.{List, [], Some, None, Bool, true, false, Option, refl, ap, sym, ◌∙◌, AllByRecursion, and_parts, Shape, Shape-F, out-Shape, roll-Shape, TypedExpr, Stmt, Names, Checked, Paired, Stepping, node_so, step_so, entry_so, expr_so, link_so, suffix_so, if_known, checked, holds, shape_of, Body, stmt_holds, passes, Wish, Event, Channel, answers, wished}
 use Rattle.epl_values.specs.declared.shape.Shape.TheVariants as shape
 use Rattle.epl_values.specs.declared.shape.Shape.TheOpen as layer
 use Rattle.epl_values.specs.declared.shape.Shape.TheViews.{roll-out-Shape}

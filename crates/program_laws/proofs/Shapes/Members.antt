@@ -1,5 +1,6 @@
 -- What a member makes where no fault is found in it.
-use Rattle.program_laws.proofs.Common.{◌≡◌, ℕ, ◌≤◌, length, map, List, [], ◌∷◌, ◌++◌, Some, None, true, Option, refl, ap, sym, subst, ◌∙◌, slice_get, arith, option_map, AllByRecursion, Shape, EventShape, Expr, TypeExpr, ActionDecl, GlobalDecl, Member, TypedExpr, Action, Global, Program, Site, action_so, global_so, stands, Table, told, event_of, type_found, expr_found, KnowsType, Made, action_read, action_of, actions_before, body_around, body_start, short, expr_names, global_codes, global_read, with_global, exactly, row_read, Reads}
+use Rattle.std.proofs.Common.{◌≡◌, ◌≤◌, ◌∷◌, ◌++◌}
+use Rattle.program_laws.proofs.Common.{ℕ, length, map, List, [], Some, None, true, Option, refl, ap, sym, subst, ◌∙◌, slice_get, arith, option_map, AllByRecursion, Shape, EventShape, Expr, TypeExpr, ActionDecl, GlobalDecl, Member, TypedExpr, Action, Global, Program, Site, action_so, global_so, stands, Table, told, event_of, type_found, expr_found, KnowsType, Made, action_read, action_of, actions_before, body_around, body_start, short, expr_names, global_codes, global_read, with_global, exactly, row_read, Reads}
 use Rattle.typed_program.specs.Programs.{no_names, initial_so}
 use Rattle.type_table.specs.Heads.{action_head}
 use Rattle.type_table.specs.Scopes.{start_of}

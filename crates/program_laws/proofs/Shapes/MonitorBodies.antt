@@ -1,5 +1,6 @@
 -- The members of a monitor in order, where its heads are known: its globals, its actions and their sites are as they should be.
-use Rattle.program_laws.proofs.Common.{◌≡◌, ℕ, suc, ◌+◌, ◌<◌, ◌≤◌, length, List, [], ◌∷◌, ◌++◌, Some, true, cond, not, refl, ap, sym, subst, ◌∙◌, slice_get, arith, append_assoc, AllByRecursion, sum_by-cons, ActionDecl, GlobalDecl, Member, Action, Global, Program, Site, action_so, global_so, ActionHead, Table, actions_from, event_of, type_found, KnowsType, Made, action_read, actions_before, short, global_read, members_read}
+use Rattle.std.proofs.Common.{◌≡◌, ◌+◌, ◌<◌, ◌≤◌, ◌∷◌, ◌++◌}
+use Rattle.program_laws.proofs.Common.{ℕ, suc, length, List, [], Some, true, cond, not, refl, ap, sym, subst, ◌∙◌, slice_get, arith, append_assoc, AllByRecursion, sum_by-cons, ActionDecl, GlobalDecl, Member, Action, Global, Program, Site, action_so, global_so, ActionHead, Table, actions_from, event_of, type_found, KnowsType, Made, action_read, actions_before, short, global_read, members_read}
 use Rattle.epl_tree.specs.declared.unit.Member.TheVariants as member
 use Rattle.type_table.specs.Heads.{action_head}
 use Rattle.stmt_check.specs.Actions.{is_global}

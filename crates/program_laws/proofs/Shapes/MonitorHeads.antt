@@ -1,5 +1,6 @@
 -- The members of a monitor in order: each head stands for the action or the global that is made for it.
-use Rattle.program_laws.proofs.Common.{◌≡◌, ℕ, zero, suc, ◌+◌, ◌<◌, ◌≤◌, ◌==◌, min, length, map, List, [], ◌∷◌, ◌++◌, Some, None, Bool, true, false, cond, ◌&&◌, ◌||◌, not, nat_le, is_some, Option, refl, ap, sym, subst, ◌∙◌, slice_get, arith, list_all, nat_tests, sum_by-append, length-append, or_parts, leb-false, Shape, EventShape, TypeExpr, ActionDecl, GlobalDecl, Member, TypedExpr, Action, Global, stands, ActionHead, GlobalHead, Table, actions_from, globals_in, result_head, event_of, type_found, param_wants, result_given, gives_result, result_stands, Made, action_of, action_read, body_around, body_start, actions_before, member_codes, when, short, is_special, ends_with_return, global_codes, global_read, members_read, with_global, row_read}
+use Rattle.std.proofs.Common.{◌≡◌, ◌+◌, ◌<◌, ◌≤◌, ◌==◌, ◌∷◌, ◌++◌, ◌&&◌, ◌||◌}
+use Rattle.program_laws.proofs.Common.{ℕ, zero, suc, min, length, map, List, [], Some, None, Bool, true, false, cond, not, nat_le, is_some, Option, refl, ap, sym, subst, ◌∙◌, slice_get, arith, list_all, nat_tests, sum_by-append, length-append, or_parts, leb-false, Shape, EventShape, TypeExpr, ActionDecl, GlobalDecl, Member, TypedExpr, Action, Global, stands, ActionHead, GlobalHead, Table, actions_from, globals_in, result_head, event_of, type_found, param_wants, result_given, gives_result, result_stands, Made, action_of, action_read, body_around, body_start, actions_before, member_codes, when, short, is_special, ends_with_return, global_codes, global_read, members_read, with_global, row_read}
 use Rattle.epl_tree.specs.declared.unit.Member.TheVariants as member
 use Rattle.type_table.specs.Heads.{action_head, global_head}
 use Rattle.stmt_check.specs.Actions.{action_codes, globals_before, is_global}

@@ -1,6 +1,6 @@
 -- A monitor: its heads are known in the finished program, and it is as it should be.
-use Rattle.program_laws.proofs.Common.{◌≡◌, ℕ, zero, suc, ◌+◌, ◌<◌, ◌==◌, min, length, List, [], ◌∷◌, Some, None, Bool, true, false, cond, if◌then◌else◌, ◌&&◌, ◌||◌, not, is_some, Option, refl, ap, sym, ◌∙◌, slice_get, get_or, arith, codes, nat_lt, list_any, position_or_len, nat_tests, bytes_eq, position-Some, get_or_from_slice_get, eq-eqb, Shape, Member, MonitorDecl, Global, Monitor, Program, if_known, names_in, global_shapes, global_so, monitor_so, ActionHead, GlobalHead, MonitorHead, Table, actions_from, has_onload, event_of, KnowsAction, Made, short, action_in, is_special, action_number, or_zero, monitor_of}
-use Rattle.std.proofs.Common.{position}
+use Rattle.program_laws.proofs.Common.{ℕ, zero, suc, min, length, List, [], Some, None, Bool, true, false, cond, not, is_some, Option, refl, ap, sym, ◌∙◌, slice_get, get_or, arith, codes, nat_lt, list_any, position_or_len, nat_tests, bytes_eq, position-Some, get_or_from_slice_get, eq-eqb, Shape, Member, MonitorDecl, Global, Monitor, Program, if_known, names_in, global_shapes, global_so, monitor_so, ActionHead, GlobalHead, MonitorHead, Table, actions_from, has_onload, event_of, KnowsAction, Made, short, action_in, is_special, action_number, or_zero, monitor_of}
+use Rattle.std.proofs.Common.{◌≡◌, ◌+◌, ◌<◌, ◌==◌, ◌∷◌, if◌then◌else◌, ◌&&◌, ◌||◌, position}
 use Rattle.std.proofs.lemmas.Bool.{ltb-true}
 use Rattle.epl_tree.specs.declared.unit.Member.TheVariants as member
 use Rattle.typed_program.specs.Programs.{is_plain, runs_plain, ends_plain}

@@ -1,5 +1,6 @@
 -- The names that are visible where a callback begins: the captured ones at their places, and the bound ones behind them.
-use Rattle.program_laws.proofs.Common.{◌≡◌, ℕ, zero, suc, ◌+◌, ◌≤◌, length, map, List, [], ◌∷◌, ◌++◌, Some, Bool, true, false, cond, if◌then◌else◌, ◌&&◌, not, Option, refl, ap, sym, subst, ◌∙◌, slice_get, arith, filter, AllByRecursion, slice_get_within, length-map, Shape, EventShape, Program, Names, names_in, Seen, SeenKind, KnowsName, by_number, captured_in, outer_kind, bound_seen, place_among, short, known_shape}
+use Rattle.std.proofs.Common.{◌≡◌, ◌+◌, ◌≤◌, ◌∷◌, ◌++◌, if◌then◌else◌, ◌&&◌}
+use Rattle.program_laws.proofs.Common.{ℕ, zero, suc, length, map, List, [], Some, Bool, true, false, cond, not, Option, refl, ap, sym, subst, ◌∙◌, slice_get, arith, filter, AllByRecursion, slice_get_within, length-map, Shape, EventShape, Program, Names, names_in, Seen, SeenKind, KnowsName, by_number, captured_in, outer_kind, bound_seen, place_among, short, known_shape}
 use Rattle.type_table.specs.declared.scope.SeenKind.TheVariants as kind
 use Rattle.stmt_check.specs.Bodies.{is_global, outer_seen}
 use Rattle.stmt_check.specs.Captures.{Names as Named}

@@ -1,5 +1,6 @@
 -- What is asked of a part of a body: it holds in each finished body that fits, wherever it is read.
-use Rattle.program_laws.proofs.Common.{◌≡◌, ℕ, List, Bool, true, Spot, Shape, State, Around, NodePart, OnPart}
+use Rattle.std.proofs.Common.{◌≡◌}
+use Rattle.program_laws.proofs.Common.{ℕ, List, Bool, true, Spot, Shape, State, Around, NodePart, OnPart}
 use Rattle.typed_program.specs.Statements.{site_so}
 use Rattle.stmt_check.specs.Statements.{Part}
 use Rattle.program_laws.proofs.Shapes.Forms.{Good, Free}

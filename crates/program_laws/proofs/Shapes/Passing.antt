@@ -1,5 +1,6 @@
 -- Declarations and files in order, and what holds of all that is made of them: what is gathered and what is made keep pace, and each monitor stands in the finished program.
-use Rattle.program_laws.proofs.Common.{◌≡◌, ℕ, ◌+◌, ◌<◌, ◌≤◌, length, map, List, [], ◌∷◌, ◌++◌, Some, true, not, nat_le, Option, refl, ap, sym, subst, ◌∙◌, slice_get, arith, not-false, leb-false, length-append, Declaration, EventDecl, MonitorDecl, Action, Monitor, Program, Fault, Gathered, MonitorHead, Table, numbers, with_event, with_monitor, monitor_faults, declaration_faults, faults_from, gathered_after, units_faults, units_gathered, none_gathered, in_file, actions_from, has_onload, has_name, event_of, Made, members_read, monitor_of, declarations_read, file_made, files_faults, files_made, nothing_made}
+use Rattle.std.proofs.Common.{◌≡◌, ◌+◌, ◌<◌, ◌≤◌, ◌∷◌, ◌++◌}
+use Rattle.program_laws.proofs.Common.{ℕ, length, map, List, [], Some, true, not, nat_le, Option, refl, ap, sym, subst, ◌∙◌, slice_get, arith, not-false, leb-false, length-append, Declaration, EventDecl, MonitorDecl, Action, Monitor, Program, Fault, Gathered, MonitorHead, Table, numbers, with_event, with_monitor, monitor_faults, declaration_faults, faults_from, gathered_after, units_faults, units_gathered, none_gathered, in_file, actions_from, has_onload, has_name, event_of, Made, members_read, monitor_of, declarations_read, file_made, files_faults, files_made, nothing_made}
 use Rattle.epl_tree.specs.declared.unit.Declaration.TheVariants as declaration
 use Rattle.epl_tree.specs.declared.unit.Unit.{Unit as File}
 use Rattle.type_table.specs.declared.fault.CheckFault.TheVariants as check

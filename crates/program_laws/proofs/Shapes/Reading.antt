@@ -1,5 +1,6 @@
 -- Expressions, places and arguments where a body is read: what is known there, and what they answer.
-use Rattle.program_laws.proofs.Common.{◌≡◌, ℕ, length, map, List, Some, None, Bool, true, false, if◌then◌else◌, Option, refl, ap, sym, ◌∙◌, slice_get, arith, option_map, is_some, IfSome, list_all, Shape, Expr, Place, have, stands, Scope, MonitorHead, ParamHead, Table, Demand, action_named, typed_arguments, param_wants, item_at, place_found, expr_found, answers, wish_stands, result_stands, State, Around, action_in, expr_names, place_names, exprs_name, optional_names, reads, args_read, maybe_read}
+use Rattle.std.proofs.Common.{◌≡◌, if◌then◌else◌}
+use Rattle.program_laws.proofs.Common.{ℕ, length, map, List, Some, None, Bool, true, false, Option, refl, ap, sym, ◌∙◌, slice_get, arith, option_map, is_some, IfSome, list_all, Shape, Expr, Place, have, stands, Scope, MonitorHead, ParamHead, Table, Demand, action_named, typed_arguments, param_wants, item_at, place_found, expr_found, answers, wish_stands, result_stands, State, Around, action_in, expr_names, place_names, exprs_name, optional_names, reads, args_read, maybe_read}
 use Rattle.type_table.specs.Table.{action_of}
 use Rattle.expr_rules.specs.Calls.{action_in as head_in}
 use Rattle.expr_check.specs.Expressions.{part_of as expr_part}

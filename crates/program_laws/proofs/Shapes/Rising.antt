@@ -1,5 +1,6 @@
 -- Visible names in ascending order of their numbers: those that a callback takes along, and their places among these.
-use Rattle.program_laws.proofs.Common.{◌≡◌, ℕ, zero, suc, ◌+◌, ◌<◌, ◌≤◌, drop, take, List, [], ◌∷◌, ◌++◌, Some, Bool, true, false, cond, refl, sym, ap, subst, ◌∙◌, arith, nat_lt, slice_get, filter, take-append-drop, filter-append, sum_by-cons, lt-ltb, Seen, place_among}
+use Rattle.std.proofs.Common.{◌≡◌, ◌+◌, ◌<◌, ◌≤◌, ◌∷◌, ◌++◌}
+use Rattle.program_laws.proofs.Common.{ℕ, zero, suc, drop, take, List, [], Some, Bool, true, false, cond, refl, sym, ap, subst, ◌∙◌, arith, nat_lt, slice_get, filter, take-append-drop, filter-append, sum_by-cons, lt-ltb, Seen, place_among}
 use Rattle.std.proofs.lemmas.Bool.{le-ltb}
 use Rattle.program_laws.proofs.Shapes.Lists.{none_isnt}
 

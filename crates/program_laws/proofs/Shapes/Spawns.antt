@@ -1,5 +1,6 @@
 -- `spawn` and the calls of a monitor: where no fault is found, the action is there and takes what it is given.
-use Rattle.program_laws.proofs.Common.{◌≡◌, ℕ, length, map, List, [], ◌∷◌, Some, None, Bool, true, false, ◌||◌, not, ◌==◌, Option, refl, ap, sym, ◌∙◌, slice_get, is_some, IfSome, list_all, not-false, eqb-true, eq-eqb, Spot, Shape, Expr, TypedExpr, have, if_known, stands, stmt_holds, ActionHead, Exactly, param_wants, result_given, KnowsAction, answers, gives_result, State, Around, when, is_special, expr_names, exprs_name, optional_names, either, any_of, exactly, reads, args_read, maybe_read, begun_read, spawned_read, spawn_read, spawn_codes, has_result, control, control_codes, channel_read, monitor_read, is_subscribe}
+use Rattle.std.proofs.Common.{◌≡◌, ◌∷◌, ◌||◌, ◌==◌}
+use Rattle.program_laws.proofs.Common.{ℕ, length, map, List, [], Some, None, Bool, true, false, not, Option, refl, ap, sym, ◌∙◌, slice_get, is_some, IfSome, list_all, not-false, eqb-true, eq-eqb, Spot, Shape, Expr, TypedExpr, have, if_known, stands, stmt_holds, ActionHead, Exactly, param_wants, result_given, KnowsAction, answers, gives_result, State, Around, when, is_special, expr_names, exprs_name, optional_names, either, any_of, exactly, reads, args_read, maybe_read, begun_read, spawned_read, spawn_read, spawn_codes, has_result, control, control_codes, channel_read, monitor_read, is_subscribe}
 use Rattle.epl_values.specs.declared.shape.Shape.TheVariants as shape
 use Rattle.typed_program.specs.declared.statement.Stmt.TheVariants as made
 use Rattle.typed_program.specs.declared.statement.Stmt.TheOpen as layer

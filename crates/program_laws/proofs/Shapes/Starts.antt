@@ -1,6 +1,6 @@
 -- Where a callback begins: what its state says there, and what its site takes along.
-use Rattle.program_laws.proofs.Common.{◌≡◌, ℕ, suc, ◌+◌, ◌≤◌, length, map, List, [], ◌∷◌, ◌++◌, Some, None, Bool, true, false, ◌&&◌, not, Option, refl, ap, sym, subst, ◌∙◌, slice_get, arith, AllByRecursion, list_all, filter-append, not-true, and_parts, length-map, Shape, EventExpr, Site, TypedTerm, if_known, names_in, stands, same, Local, is_local, Seen, KnowsName, State, Around, short, captured_in, bound_in, callback_start, with_site, known_shape, bound_seen}
-use Rattle.std.proofs.Common.{length-append}
+use Rattle.program_laws.proofs.Common.{ℕ, suc, length, map, List, [], Some, None, Bool, true, false, not, Option, refl, ap, sym, subst, ◌∙◌, slice_get, arith, AllByRecursion, list_all, filter-append, not-true, and_parts, length-map, Shape, EventExpr, Site, TypedTerm, if_known, names_in, stands, same, Local, is_local, Seen, KnowsName, State, Around, short, captured_in, bound_in, callback_start, with_site, known_shape, bound_seen}
+use Rattle.std.proofs.Common.{◌≡◌, ◌+◌, ◌≤◌, ◌∷◌, ◌++◌, ◌&&◌, length-append}
 use Rattle.std.proofs.lemmas.List.Sums.{length-filter, count_by-le-length}
 use Rattle.typed_program.specs.Statements.{captures}
 use Rattle.stmt_check.specs.Bodies.{is_global, local_of, outer_seen}

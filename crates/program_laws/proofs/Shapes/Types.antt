@@ -1,5 +1,6 @@
 -- A type as it is written, without a fault, is a shape that names what is there.
-use Rattle.program_laws.proofs.Common.{◌≡◌, ℕ, ◌<◌, min, length, map, List, [], ◌++◌, Some, None, true, ◌&&◌, Option, refl, ap, sym, subst, ◌∙◌, arith, nat_lt, bytes_eq, nat_tests, position-Some, length-map, Spot, Shape, Shape-F, out-Shape, EventShape, fold-roll-Shape, TypeExpr, TypeNode, TypeNode-F, roll-TypeNode, roll-TypeExpr, fold-TypeNode, fold-roll-TypeNode, fold-roll-TypeExpr, ind-TypeExpr, map-TypeNode, stands, Standing, standing_step, is_scalar_layer, Table, Found, told, number_in, event_of, Written, node_found, written_step, written_of, type_by, type_found}
+use Rattle.std.proofs.Common.{◌≡◌, ◌<◌, ◌++◌, ◌&&◌}
+use Rattle.program_laws.proofs.Common.{ℕ, min, length, map, List, [], Some, None, true, Option, refl, ap, sym, subst, ◌∙◌, arith, nat_lt, bytes_eq, nat_tests, position-Some, length-map, Spot, Shape, Shape-F, out-Shape, EventShape, fold-roll-Shape, TypeExpr, TypeNode, TypeNode-F, roll-TypeNode, roll-TypeExpr, fold-TypeNode, fold-roll-TypeNode, fold-roll-TypeExpr, ind-TypeExpr, map-TypeNode, stands, Standing, standing_step, is_scalar_layer, Table, Found, told, number_in, event_of, Written, node_found, written_step, written_of, type_by, type_found}
 use Rattle.epl_values.specs.declared.shape.Shape.TheVariants as shape
 use Rattle.epl_values.specs.declared.shape.Shape.TheOpen as layer
 use Rattle.epl_values.specs.declared.shape.Shape.TheFolds.{fold-Shape, fold_out-Shape, map-Shape}

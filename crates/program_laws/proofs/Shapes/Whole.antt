@@ -1,5 +1,6 @@
 -- The program of files in which no fault is found has its shapes.
-use Rattle.program_laws.proofs.Common.{◌≡◌, ℕ, suc, ◌+◌, length, map, List, [], ◌∷◌, Some, true, refl, ap, sym, subst, ◌∙◌, slice_get, arith, slice_get_within, EventShape, EventDecl, Monitor, Program, Site, HasShapes, monitor_so, action_so, site_so, event_shape, numbers, kinds_of, names_of, IsProgram, made_of, nothing_made}
+use Rattle.std.proofs.Common.{◌≡◌, ◌+◌, ◌∷◌}
+use Rattle.program_laws.proofs.Common.{ℕ, suc, length, map, List, [], Some, true, refl, ap, sym, subst, ◌∙◌, slice_get, arith, slice_get_within, EventShape, EventDecl, Monitor, Program, Site, HasShapes, monitor_so, action_so, site_so, event_shape, numbers, kinds_of, names_of, IsProgram, made_of, nothing_made}
 use Rattle.epl_tree.specs.declared.unit.Unit.{Unit as File}
 use Rattle.typed_program.specs.Programs.{monitors_so}
 use Rattle.program_laws.proofs.Shapes.Files.{AllHolds, files_hold, same_numbers}

@@ -1,5 +1,6 @@
 -- An expression that names none of the names by which two scopes differ is the same in both.
-use Rattle.program_laws.proofs.Common.{◌≡◌, ℕ, Bool, false, ◌||◌, List, [], ◌∷◌, map, Option, refl, sym, ap, ap₂, subst, ◌∙◌, or_parts, Spot, Expr, Expr-F, map-Expr, roll-Expr, fold-roll-Expr, ExprNode, ExprNode-F, map-ExprNode, roll-ExprNode, fold-ExprNode, fold-roll-ExprNode, Link, Link-F, map-Link, roll-Link, fold-roll-Link, Entry, Entry-F, map-Entry, roll-Entry, fold-roll-Entry, Suffix, Suffix-F, map-Suffix, roll-Suffix, fold-roll-Suffix, SuffixNode, SuffixNode-F, map-SuffixNode, roll-SuffixNode, fold-SuffixNode, fold-roll-SuffixNode, ind-Expr, Scope, Table, ActionHead, seen, name_found, event_of, action_named, plan_of, plan_found, Pair, Part, Linked, Step, Node, StepNode}
+use Rattle.std.proofs.Common.{◌≡◌, ◌||◌, ◌∷◌}
+use Rattle.program_laws.proofs.Common.{ℕ, Bool, false, List, [], map, Option, refl, sym, ap, ap₂, subst, ◌∙◌, or_parts, Spot, Expr, Expr-F, map-Expr, roll-Expr, fold-roll-Expr, ExprNode, ExprNode-F, map-ExprNode, roll-ExprNode, fold-ExprNode, fold-roll-ExprNode, Link, Link-F, map-Link, roll-Link, fold-roll-Link, Entry, Entry-F, map-Entry, roll-Entry, fold-roll-Entry, Suffix, Suffix-F, map-Suffix, roll-Suffix, fold-roll-Suffix, SuffixNode, SuffixNode-F, map-SuffixNode, roll-SuffixNode, fold-SuffixNode, fold-roll-SuffixNode, ind-Expr, Scope, Table, ActionHead, seen, name_found, event_of, action_named, plan_of, plan_found, Pair, Part, Linked, Step, Node, StepNode}
 use Rattle.epl_tree.specs.declared.expression.ExprNode.TheOpen as node
 use Rattle.expr_check.specs.Expressions as check
 use Rattle.listener_check.specs.Names as names

@@ -1,5 +1,6 @@
 -- Where an expression is told to be astray there is a fault in it.
-use Rattle.program_laws.proofs.Common.{◌≡◌, ℕ, ◌+◌, ◌-◌, Bool, true, false, List, [], ◌∷◌, ◌++◌, map, length, Option, Some, None, sym, subst, arith, AllByRecursion, length_push, Spot, Expr, Expr-F, map-Expr, roll-Expr, fold-roll-Expr, ExprNode, ExprNode-F, map-ExprNode, roll-ExprNode, fold-ExprNode, fold-roll-ExprNode, Link, Entry, Suffix, Suffix-F, map-Suffix, roll-Suffix, fold-roll-Suffix, SuffixNode, SuffixNode-F, map-SuffixNode, roll-SuffixNode, fold-SuffixNode, fold-roll-SuffixNode, ind-Expr, TypedNode, roll-TypedSuffix, Shape, Scope, Seen, Table, Found, type_found, event_of, Logic, Level, Sort, Gives, Judged, Root, Reach, Walk, Demand, operand, inside, seen, name_found, Pair, integer_stands, greatest, empty_stands, sequence_items, element_found, no_elements, dictionary_items, entry_found, no_entries, plan_of, plan_found, action_named, arguments_found, context_found, context_start, Part, Linked, operated, chain_start, join_found, links_start, link_found, judged, place_codes, given_codes, change_code, astray_code, called_of, Step, walked, reached, near, demand_before, walk_start, step_found, postfix_found, called_found, sound, codes_of, Node, StepNode, node_step, suffix_node_step, entry_step, expr_step, link_step, suffix_step, link_part, entry_part, typed_of, expr_found}
+use Rattle.std.proofs.Common.{◌≡◌, ◌+◌, ◌-◌, ◌∷◌, ◌++◌}
+use Rattle.program_laws.proofs.Common.{ℕ, Bool, true, false, List, [], map, length, Option, Some, None, sym, subst, arith, AllByRecursion, length_push, Spot, Expr, Expr-F, map-Expr, roll-Expr, fold-roll-Expr, ExprNode, ExprNode-F, map-ExprNode, roll-ExprNode, fold-ExprNode, fold-roll-ExprNode, Link, Entry, Suffix, Suffix-F, map-Suffix, roll-Suffix, fold-roll-Suffix, SuffixNode, SuffixNode-F, map-SuffixNode, roll-SuffixNode, fold-SuffixNode, fold-roll-SuffixNode, ind-Expr, TypedNode, roll-TypedSuffix, Shape, Scope, Seen, Table, Found, type_found, event_of, Logic, Level, Sort, Gives, Judged, Root, Reach, Walk, Demand, operand, inside, seen, name_found, Pair, integer_stands, greatest, empty_stands, sequence_items, element_found, no_elements, dictionary_items, entry_found, no_entries, plan_of, plan_found, action_named, arguments_found, context_found, context_start, Part, Linked, operated, chain_start, join_found, links_start, link_found, judged, place_codes, given_codes, change_code, astray_code, called_of, Step, walked, reached, near, demand_before, walk_start, step_found, postfix_found, called_found, sound, codes_of, Node, StepNode, node_step, suffix_node_step, entry_step, expr_step, link_step, suffix_step, link_part, entry_part, typed_of, expr_found}
 use Rattle.epl_tree.specs.declared.expression.ExprNode.TheOpen as node
 use Rattle.expr_rules.specs.declared.operators.Logic.TheVariants as logic
 use Rattle.expr_rules.specs.declared.operators.Level.TheVariants as level

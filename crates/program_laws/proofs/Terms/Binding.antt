@@ -1,5 +1,6 @@
 -- Names are bound in order of the source, each once, and the names that an event expression binds are there behind those around it.
-use Rattle.program_laws.proofs.Common.{◌≡◌, ℕ, ◌+◌, ◌<◌, ◌≤◌, Bool, true, false, ◌||◌, nat_le, List, [], ◌∷◌, ◌++◌, map, drop, length, Option, Some, None, is_some, slice_get, refl, sym, ap, ◌∙◌, true≢false, arith, append_assoc, if◌then◌else◌, find, bytes_eq, drop-append_seam, nat_tests, length-append, length_push, append-nil, length-map, or_parts, Shape, Name, TemplateClause, Local, Names, Scope, Seen, Table, told, event_of, seen_of, Sofar, seen_bound, clause_binds, clauses_bind, is_among, bound_of, local_of, local_shape, is_full, is_taken, name_codes, with_name, went}
+use Rattle.std.proofs.Common.{◌≡◌, ◌+◌, ◌<◌, ◌≤◌, ◌||◌, ◌∷◌, ◌++◌, if◌then◌else◌}
+use Rattle.program_laws.proofs.Common.{ℕ, Bool, true, false, nat_le, List, [], map, drop, length, Option, Some, None, is_some, slice_get, refl, sym, ap, ◌∙◌, true≢false, arith, append_assoc, find, bytes_eq, drop-append_seam, nat_tests, length-append, length_push, append-nil, length-map, or_parts, Shape, Name, TemplateClause, Local, Names, Scope, Seen, Table, told, event_of, seen_of, Sofar, seen_bound, clause_binds, clauses_bind, is_among, bound_of, local_of, local_shape, is_full, is_taken, name_codes, with_name, went}
 use Rattle.std.specs.Prelude.{cond}
 use Rattle.epl_values.specs.declared.shape.Shape.TheVariants as shape
 use Rattle.epl_tree.specs.declared.event.TemplateClause.TheVariants as clause

@@ -1,5 +1,6 @@
 -- The names that an event expression binds, behind those around it: events with their places, in order.
-use Rattle.program_laws.proofs.Common.{◌≡◌, ℕ, zero, suc, ◌+◌, ◌<◌, Bool, true, false, ◌&&◌, not, List, [], ◌∷◌, ◌++◌, length, Option, Some, None, is_some, slice_get, refl, sym, ap, subst, ◌∙◌, true≢false, arith, position, find, bytes_eq, position_or_len, nat_tests, Names, Scope, Seen, seen_of, seen, item_at, is_own}
+use Rattle.std.proofs.Common.{◌≡◌, ◌+◌, ◌<◌, ◌&&◌, ◌∷◌, ◌++◌}
+use Rattle.program_laws.proofs.Common.{ℕ, zero, suc, Bool, true, false, not, List, [], length, Option, Some, None, is_some, slice_get, refl, sym, ap, subst, ◌∙◌, true≢false, arith, position, find, bytes_eq, position_or_len, nat_tests, Names, Scope, Seen, seen_of, seen, item_at, is_own}
 use Rattle.std.proofs.lemmas.List.Folds.{find_at}
 use Rattle.std.proofs.lemmas.Option.{slice_get_past}
 use Rattle.std.specs.Prelude.{nat_lt, cond}

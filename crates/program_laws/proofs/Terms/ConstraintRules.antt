@@ -1,5 +1,6 @@
 -- Constraints without faults keep the rules: what may be asked of a field, and of each field once.
-use Rattle.program_laws.proofs.Common.{◌≡◌, ℕ, min, Bool, true, false, ◌&&◌, ◌||◌, not, ◌==◌, List, [], ◌∷◌, ◌++◌, length, Option, Some, None, slice_get, refl, sym, ap, ◌∙◌, true≢false, arith, append_assoc, if◌then◌else◌, list_all, list_any, and_from, and_parts, or_parts, not-true, not-false, nat_tests, list_all-append, slice_get_within, append-nil, Field, EventShape, Shape, Shape-F, out-Shape, Constraint, ConstraintNode, Range, Comparison, Expr, is_scalar_layer, is_ordered_layer, Names, if_known, field_shape, shape_in, asked_fields, differ, constraint_lawful, Scope, Table, told, KnowsTable, KnowsType, Done, Sofar, is_named, number_of, missing_code, field_codes, none_done, lies, missing_read, found_read, numbered_read, constraint_read, constraint_step, constraints_read, went}
+use Rattle.std.proofs.Common.{◌≡◌, ◌&&◌, ◌||◌, ◌==◌, ◌∷◌, ◌++◌, if◌then◌else◌}
+use Rattle.program_laws.proofs.Common.{ℕ, min, Bool, true, false, not, List, [], length, Option, Some, None, slice_get, refl, sym, ap, ◌∙◌, true≢false, arith, append_assoc, list_all, list_any, and_from, and_parts, or_parts, not-true, not-false, nat_tests, list_all-append, slice_get_within, append-nil, Field, EventShape, Shape, Shape-F, out-Shape, Constraint, ConstraintNode, Range, Comparison, Expr, is_scalar_layer, is_ordered_layer, Names, if_known, field_shape, shape_in, asked_fields, differ, constraint_lawful, Scope, Table, told, KnowsTable, KnowsType, Done, Sofar, is_named, number_of, missing_code, field_codes, none_done, lies, missing_read, found_read, numbered_read, constraint_read, constraint_step, constraints_read, went}
 use Rattle.epl_values.specs.declared.shape.Shape.TheOpen as layer
 use Rattle.epl_tree.specs.declared.event.ConstraintNode.TheVariants as node
 use Rattle.epl_tree.specs.declared.expression.Comparison.TheVariants as comparison

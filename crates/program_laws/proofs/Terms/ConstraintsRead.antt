@@ -1,5 +1,6 @@
 -- Constraints without faults are of the fields that they stand for.
-use Rattle.program_laws.proofs.Common.{◌≡◌, ℕ, min, Bool, true, ◌&&◌, ◌||◌, List, [], ◌∷◌, ◌++◌, map, length, Option, Some, None, slice_get, refl, ap, ◌∙◌, arith, list_all, and_from, slice_get_within, list_all-append, Field, EventShape, Shape, Constraint, ConstraintNode, Range, Comparison, Expr, Operand, stands, Names, if_known, field_shape, shape_in, operand_so, constraint_so, Scope, Table, told, KnowsTable, KnowsNamed, KnowsType, Done, Sofar, is_named, number_of, missing_code, field_codes, none_done, lies, missing_read, found_read, numbered_read, constraint_read, constraint_step, constraints_read, went, any_of, expr_names, range_names, constraint_names}
+use Rattle.std.proofs.Common.{◌≡◌, ◌&&◌, ◌||◌, ◌∷◌, ◌++◌}
+use Rattle.program_laws.proofs.Common.{ℕ, min, Bool, true, List, [], map, length, Option, Some, None, slice_get, refl, ap, ◌∙◌, arith, list_all, and_from, slice_get_within, list_all-append, Field, EventShape, Shape, Constraint, ConstraintNode, Range, Comparison, Expr, Operand, stands, Names, if_known, field_shape, shape_in, operand_so, constraint_so, Scope, Table, told, KnowsTable, KnowsNamed, KnowsType, Done, Sofar, is_named, number_of, missing_code, field_codes, none_done, lies, missing_read, found_read, numbered_read, constraint_read, constraint_step, constraints_read, went, any_of, expr_names, range_names, constraint_names}
 use Rattle.epl_tree.specs.declared.event.ConstraintNode.TheVariants as node
 use Rattle.epl_tree.specs.declared.expression.Comparison.TheVariants as comparison
 use Rattle.typed_program.specs.declared.term.Constraint.{Constraint as Typed}

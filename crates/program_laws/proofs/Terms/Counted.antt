@@ -1,5 +1,6 @@
 -- What a part of an event expression counts: its operands and durations, its leaves, and the names that it binds.
-use Rattle.program_laws.proofs.Common.{◌≡◌, ℕ, ◌+◌, Bool, ◌||◌, List, [], ◌∷◌, ◌++◌, length, Option, Some, None, refl, sym, ap, subst, ◌∙◌, arith, flat_map, flat_map-append, length-append, Spot, Field, Shape, Constraint, ConstraintNode, Duration, Range, Comparison, Expr, out-Expr, TypedExpr, TypedLink, out-TypedLink, Operand, operands_in, Scope, Table, Found, told, Done, Reached, Sofar, Naming, is_named, number_of, missing_code, field_codes, none_done, lies, missing_read, found_read, numbered_read, constraint_read, constraint_step, constraints_read, sum_codes, with_sum, bound, sum_layer, naming_of, went}
+use Rattle.std.proofs.Common.{◌≡◌, ◌+◌, ◌||◌, ◌∷◌, ◌++◌}
+use Rattle.program_laws.proofs.Common.{ℕ, Bool, List, [], length, Option, Some, None, refl, sym, ap, subst, ◌∙◌, arith, flat_map, flat_map-append, length-append, Spot, Field, Shape, Constraint, ConstraintNode, Duration, Range, Comparison, Expr, out-Expr, TypedExpr, TypedLink, out-TypedLink, Operand, operands_in, Scope, Table, Found, told, Done, Reached, Sofar, Naming, is_named, number_of, missing_code, field_codes, none_done, lies, missing_read, found_read, numbered_read, constraint_read, constraint_step, constraints_read, sum_codes, with_sum, bound, sum_layer, naming_of, went}
 use Rattle.epl_tree.specs.declared.event.ConstraintNode.TheVariants as node
 use Rattle.epl_tree.specs.declared.expression.Comparison.TheVariants as comparison
 use Rattle.typed_program.specs.declared.expression.TypedNode.TheOpen as typed

@@ -1,5 +1,6 @@
 -- An event expression without faults counts at most its leaves and operands, and numbers the names that it binds in order.
-use Rattle.program_laws.proofs.Common.{◌≡◌, ℕ, ◌+◌, ◌<◌, ◌≤◌, Bool, true, false, ◌==◌, nat_le, List, [], ◌∷◌, ◌++◌, map, drop, length, Option, Some, None, is_some, refl, sym, ap, subst, ◌∙◌, true≢false, arith, append_assoc, slice_get, if◌then◌else◌, and_from, and_parts, eq-eqb, or_parts, nat_tests, length-append, length_push, append-nil, sum_by-cons, Spot, EventShape, Field, Duration, Template, TemplateClause, EventExpr, Name, Term, Term-F, map-Term, roll-Term, fold-roll-Term, TemplateShape, term_part, count_up, Scope, Table, told, Sofar, Clauses, constraints_read, leaf_codes, with_leaf, is_taken, is_full, fields_of, name_codes, with_name, no_clauses, clauses_read, template_of, each_step, behind_step, each_behind, Went, went}
+use Rattle.std.proofs.Common.{◌≡◌, ◌+◌, ◌<◌, ◌≤◌, ◌==◌, ◌∷◌, ◌++◌, if◌then◌else◌}
+use Rattle.program_laws.proofs.Common.{ℕ, Bool, true, false, nat_le, List, [], map, drop, length, Option, Some, None, is_some, refl, sym, ap, subst, ◌∙◌, true≢false, arith, append_assoc, slice_get, and_from, and_parts, eq-eqb, or_parts, nat_tests, length-append, length_push, append-nil, sum_by-cons, Spot, EventShape, Field, Duration, Template, TemplateClause, EventExpr, Name, Term, Term-F, map-Term, roll-Term, fold-roll-Term, TemplateShape, term_part, count_up, Scope, Table, told, Sofar, Clauses, constraints_read, leaf_codes, with_leaf, is_taken, is_full, fields_of, name_codes, with_name, no_clauses, clauses_read, template_of, each_step, behind_step, each_behind, Went, went}
 use Rattle.std.specs.Prelude.{sum}
 use Rattle.epl_tree.specs.declared.event.TemplateClause.TheVariants as clause
 use Rattle.typed_program.specs.TermRules.{operands_of, durations, list_of, binds_all, part_of}

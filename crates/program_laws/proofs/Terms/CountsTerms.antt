@@ -1,5 +1,6 @@
 -- The counts of every event expression: names in order, at most 64 leaves, at most 192 operands.
-use Rattle.program_laws.proofs.Common.{◌≡◌, ℕ, ◌+◌, ◌≤◌, Bool, true, false, List, [], ◌∷◌, ◌++◌, map, length, Option, Some, None, refl, sym, ap, subst, ◌∙◌, arith, length-map, append-nil, Spot, EventShape, Duration, Template, EventExpr, EventExpr-F, map-EventExpr, roll-EventExpr, fold-roll-EventExpr, EventNode, EventNode-F, map-EventNode, roll-EventNode, fold-EventNode, fold-roll-EventNode, ind-EventExpr, Term, Names, count_up, Scope, Table, told, event_of, Sofar, local_of, template_read, not_codes, each_behind, may_begin, term_found, nothing_yet, went, event_names, KnowsTable, KnowsNamed}
+use Rattle.std.proofs.Common.{◌≡◌, ◌+◌, ◌≤◌, ◌∷◌, ◌++◌}
+use Rattle.program_laws.proofs.Common.{ℕ, Bool, true, false, List, [], map, length, Option, Some, None, refl, sym, ap, subst, ◌∙◌, arith, length-map, append-nil, Spot, EventShape, Duration, Template, EventExpr, EventExpr-F, map-EventExpr, roll-EventExpr, fold-roll-EventExpr, EventNode, EventNode-F, map-EventNode, roll-EventNode, fold-EventNode, fold-roll-EventNode, ind-EventExpr, Term, Names, count_up, Scope, Table, told, event_of, Sofar, local_of, template_read, not_codes, each_behind, may_begin, term_found, nothing_yet, went, event_names, KnowsTable, KnowsNamed}
 use Rattle.epl_tree.specs.declared.event.EventNode.TheOpen as node
 use Rattle.typed_program.specs.declared.term.Term.TheVariants as term
 use Rattle.typed_program.specs.declared.term.Term.TheOpen as layer

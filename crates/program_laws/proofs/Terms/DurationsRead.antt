@@ -1,5 +1,6 @@
 -- A duration without faults is an integer at its place.
-use Rattle.program_laws.proofs.Common.{◌≡◌, ℕ, Bool, true, false, List, [], Option, Some, None, is_some, refl, sym, ap, subst, ◌∙◌, if◌then◌else◌, and_from, Spot, Shape, Duration, DurationNode, Expr, TypedExpr, same, Names, holds, shape_of, if_known, given_is, Scope, Table, KnowsTable, KnowsNamed, Sofar, is_own, decimal_by, tenths, tenths_of, expr_names, duration_names}
+use Rattle.std.proofs.Common.{◌≡◌, if◌then◌else◌}
+use Rattle.program_laws.proofs.Common.{ℕ, Bool, true, false, List, [], Option, Some, None, is_some, refl, sym, ap, subst, ◌∙◌, and_from, Spot, Shape, Duration, DurationNode, Expr, TypedExpr, same, Names, holds, shape_of, if_known, given_is, Scope, Table, KnowsTable, KnowsNamed, Sofar, is_own, decimal_by, tenths, tenths_of, expr_names, duration_names}
 use Rattle.std.specs.Prelude.{pos}
 use Rattle.epl_values.specs.declared.shape.Shape.TheVariants as shape
 use Rattle.epl_tree.specs.declared.event.DurationNode.TheVariants as node

@@ -1,5 +1,6 @@
 -- An operand without faults is of the shape that its field has.
-use Rattle.program_laws.proofs.Common.{◌≡◌, ℕ, Bool, true, false, ◌&&◌, not, List, [], ◌∷◌, ◌<◌, length, Option, refl, ap, ◌∙◌, if◌then◌else◌, and_parts, not-true, Shape, Expr, out-Expr, Suffix, Link, out-Link, Operator, TypedExpr, Operand, same, stands, Names, shape_of, if_known, path_is, Scope, Table, Exactly, typed_of, KnowsTable, KnowsNamed, Sofar, Naming, is_own, bound, Layer, layer_of, is_path_of, sign_naming, links_naming, form_layer, naming_of, Went, expr_names}
+use Rattle.std.proofs.Common.{◌≡◌, ◌&&◌, ◌∷◌, ◌<◌, if◌then◌else◌}
+use Rattle.program_laws.proofs.Common.{ℕ, Bool, true, false, not, List, [], length, Option, refl, ap, ◌∙◌, and_parts, not-true, Shape, Expr, out-Expr, Suffix, Link, out-Link, Operator, TypedExpr, Operand, same, stands, Names, shape_of, if_known, path_is, Scope, Table, Exactly, typed_of, KnowsTable, KnowsNamed, Sofar, Naming, is_own, bound, Layer, layer_of, is_path_of, sign_naming, links_naming, form_layer, naming_of, Went, expr_names}
 use Rattle.epl_tree.specs.declared.expression.ExprNode.TheOpen as node
 use Rattle.epl_tree.specs.declared.expression.Operator.TheVariants as operator
 use Rattle.expr_check.specs.Expressions.{part_of}

@@ -1,5 +1,6 @@
 -- A path of fields from a bound name reaches the shape that stands at it.
-use Rattle.program_laws.proofs.Common.{◌≡◌, ℕ, min, Bool, true, false, List, [], ◌∷◌, ◌++◌, length, Option, Some, None, slice_get, refl, sym, ap, subst, ◌∙◌, true≢false, arith, AllByRecursion, flat_map-append, slice_get_within, Spot, Field, EventShape, Shape, Shape-F, out-Shape, Expr, out-Expr, fold_out-Expr, ExprNode, ExprNode-F, map-ExprNode, fold-ExprNode, fold_out-ExprNode, Suffix, out-Suffix, fold_out-Suffix, SuffixNode, SuffixNode-F, out-SuffixNode, map-SuffixNode, fold-SuffixNode, fold_out-SuffixNode, Entry, Link, roll-TypedExpr, out-roll-TypedExpr, out-TypedNode, TypedSuffix, roll-TypedSuffix, TypedSuffixNode, Names, shape_of, field_shape, shape_in, Scope, Table, Reach, Judged, Root, Walk, Demand, fields_at, Pair, Part, Linked, shape_given, Step, walked, missing_field, field_reach, field_named, field_found, demand_before, walk_start, step_found, postfix_found, Node, StepNode, node_step, suffix_node_step, entry_step, expr_step, link_step, suffix_step, link_part, entry_part, KnowsTable, KnowsType, path_layer, Layer, layer_of, is_field_layer}
+use Rattle.std.proofs.Common.{◌≡◌, ◌∷◌, ◌++◌}
+use Rattle.program_laws.proofs.Common.{ℕ, min, Bool, true, false, List, [], length, Option, Some, None, slice_get, refl, sym, ap, subst, ◌∙◌, true≢false, arith, AllByRecursion, flat_map-append, slice_get_within, Spot, Field, EventShape, Shape, Shape-F, out-Shape, Expr, out-Expr, fold_out-Expr, ExprNode, ExprNode-F, map-ExprNode, fold-ExprNode, fold_out-ExprNode, Suffix, out-Suffix, fold_out-Suffix, SuffixNode, SuffixNode-F, out-SuffixNode, map-SuffixNode, fold-SuffixNode, fold_out-SuffixNode, Entry, Link, roll-TypedExpr, out-roll-TypedExpr, out-TypedNode, TypedSuffix, roll-TypedSuffix, TypedSuffixNode, Names, shape_of, field_shape, shape_in, Scope, Table, Reach, Judged, Root, Walk, Demand, fields_at, Pair, Part, Linked, shape_given, Step, walked, missing_field, field_reach, field_named, field_found, demand_before, walk_start, step_found, postfix_found, Node, StepNode, node_step, suffix_node_step, entry_step, expr_step, link_step, suffix_step, link_part, entry_part, KnowsTable, KnowsType, path_layer, Layer, layer_of, is_field_layer}
 use Rattle.epl_values.specs.declared.shape.Shape.TheOpen as layer
 use Rattle.epl_tree.specs.declared.expression.ExprNode.TheOpen as node
 use Rattle.typed_program.specs.declared.expression.TypedNode.TheVariants as made

@@ -1,5 +1,6 @@
 -- A path from a bound name answers where the bound names are all that is known, and it reaches the shape that stands at it.
-use Rattle.program_laws.proofs.Common.{◌≡◌, ℕ, zero, suc, true, false, not, List, [], ◌∷◌, map, length, Option, Some, is_some, slice_get, refl, sym, ap, subst, ◌∙◌, true≢false, arith, AllByRecursion, list_all, drop-append_seam, and_parts, lt-ltb, not-true, Spot, Shape, Expr, out-Expr, Suffix, roll-TypedExpr, out-roll-TypedExpr, out-TypedNode, Local, Names, Scope, Seen, SeenKind, Table, seen_of, Demand, seen, name_found, variable, Part, shape_given, known, Step, Knows, KnowsTable, KnowsName, by_number, is_own, is_among, bound_of, local_of, local_shape, place_layer, Layer, layer_of, is_root_layer, is_path_of, is_path_layer}
+use Rattle.std.proofs.Common.{◌≡◌, ◌∷◌}
+use Rattle.program_laws.proofs.Common.{ℕ, zero, suc, true, false, not, List, [], map, length, Option, Some, is_some, slice_get, refl, sym, ap, subst, ◌∙◌, true≢false, arith, AllByRecursion, list_all, drop-append_seam, and_parts, lt-ltb, not-true, Spot, Shape, Expr, out-Expr, Suffix, roll-TypedExpr, out-roll-TypedExpr, out-TypedNode, Local, Names, Scope, Seen, SeenKind, Table, seen_of, Demand, seen, name_found, variable, Part, shape_given, known, Step, Knows, KnowsTable, KnowsName, by_number, is_own, is_among, bound_of, local_of, local_shape, place_layer, Layer, layer_of, is_root_layer, is_path_of, is_path_layer}
 use Rattle.epl_values.specs.declared.shape.Shape.TheVariants as shape
 use Rattle.epl_tree.specs.declared.expression.ExprNode.TheOpen as node
 use Rattle.typed_program.specs.declared.expression.TypedNode.TheVariants as made

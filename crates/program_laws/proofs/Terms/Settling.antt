@@ -1,5 +1,6 @@
 -- An event expression in which no fault is found, where those names are known that it names: its shapes, its operands and its bound names.
-use Rattle.program_laws.proofs.Common.{◌≡◌, ◌≤◌, true, false, List, [], ◌++◌, map, length, refl, sym, ap, ◌∙◌, arith, list_all, drop-append_seam, append-nil, length-map, EventExpr, TypedExpr, Local, Names, shape_of, fits_term, Scope, Seen, Table, KnowsTable, KnowsNamed, inner_of, bound_of, local_of, term_read, nothing_yet, term_found, event_names}
+use Rattle.std.proofs.Common.{◌≡◌, ◌≤◌, ◌++◌}
+use Rattle.program_laws.proofs.Common.{true, false, List, [], map, length, refl, sym, ap, ◌∙◌, arith, list_all, drop-append_seam, append-nil, length-map, EventExpr, TypedExpr, Local, Names, shape_of, fits_term, Scope, Seen, Table, KnowsTable, KnowsNamed, inner_of, bound_of, local_of, term_read, nothing_yet, term_found, event_names}
 use Rattle.typed_program.specs.Terms.{Around}
 use Rattle.program_laws.proofs.Terms.Bounds.{Numbered}
 use Rattle.program_laws.proofs.Terms.Binding.{grows_self}

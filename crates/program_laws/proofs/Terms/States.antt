@@ -1,5 +1,6 @@
 -- What stands in front of a part of an event expression, and what holds of a part behind it.
-use Rattle.program_laws.proofs.Common.{◌≡◌, ℕ, ◌<◌, ◌≤◌, Bool, true, ◌&&◌, nat_le, List, [], ◌∷◌, ◌++◌, map, length, Some, is_some, slice_get, refl, sym, ap, subst, ◌∙◌, arith, append_assoc, list_all, and_from, nat_tests, length_push, append-nil, list_all-append, Spot, TypedExpr, Names, holds, shape_of, Scope, Seen, told, Sofar, bound_of, leaf_codes, with_leaf, sum_codes, with_sum, went}
+use Rattle.std.proofs.Common.{◌≡◌, ◌<◌, ◌≤◌, ◌&&◌, ◌∷◌, ◌++◌}
+use Rattle.program_laws.proofs.Common.{ℕ, Bool, true, nat_le, List, [], map, length, Some, is_some, slice_get, refl, sym, ap, subst, ◌∙◌, arith, append_assoc, list_all, and_from, nat_tests, length_push, append-nil, list_all-append, Spot, TypedExpr, Names, holds, shape_of, Scope, Seen, told, Sofar, bound_of, leaf_codes, with_leaf, sum_codes, with_sum, went}
 use Rattle.typed_program.specs.Terms.{Around}
 use Rattle.listener_check.specs.Limits.{short, leaf_read, sum_read}
 use Rattle.listener_check.specs.Operands.{placed}

@@ -1,5 +1,6 @@
 -- A path with an integer more or less: both are integers.
-use Rattle.program_laws.proofs.Common.{◌≡◌, ℕ, true, false, ◌&&◌, List, [], ◌∷◌, ◌++◌, ◌<◌, length, Option, Some, None, is_some, refl, sym, ap, subst, ◌∙◌, true≢false, ◌⊎◌, inl, inr, and_parts, and_from, Spot, Shape, Shape-F, out-Shape, Entry, Expr, out-Expr, fold_out-Expr, ExprNode, ExprNode-F, map-ExprNode, fold-ExprNode, fold_out-ExprNode, Link, out-Link, fold_out-Link, Operator, Suffix, SuffixNode, fold-SuffixNode, TypedExpr, roll-TypedExpr, out-roll-TypedExpr, out-TypedNode, TypedLink, out-TypedLink, roll-TypedLink, out-roll-TypedLink, same, Names, holds, shape_of, if_known, operand_so, path_is, given_is, Scope, Table, LinkChain, Sort, Judged, Demand, Exactly, Value, Pair, Step, Part, Linked, sort_of_expr, addable, given_by, linked, operated, links_start, links_found, link_found, with_link, judged, shape_given, key_codes, misfit_codes, path_codes, given_codes, Node, StepNode, node_step, suffix_node_step, entry_step, expr_step, link_step, suffix_step, link_part, typed_of, expr_found, KnowsTable, KnowsNamed, Sofar, Reached, is_own, sum_layer, Layer, layer_of, went, any_of, expr_node, expr_names, suffix_names, link_names, entry_names}
+use Rattle.std.proofs.Common.{◌≡◌, ◌&&◌, ◌∷◌, ◌++◌, ◌<◌, ◌⊎◌}
+use Rattle.program_laws.proofs.Common.{ℕ, true, false, List, [], length, Option, Some, None, is_some, refl, sym, ap, subst, ◌∙◌, true≢false, inl, inr, and_parts, and_from, Spot, Shape, Shape-F, out-Shape, Entry, Expr, out-Expr, fold_out-Expr, ExprNode, ExprNode-F, map-ExprNode, fold-ExprNode, fold_out-ExprNode, Link, out-Link, fold_out-Link, Operator, Suffix, SuffixNode, fold-SuffixNode, TypedExpr, roll-TypedExpr, out-roll-TypedExpr, out-TypedNode, TypedLink, out-TypedLink, roll-TypedLink, out-roll-TypedLink, same, Names, holds, shape_of, if_known, operand_so, path_is, given_is, Scope, Table, LinkChain, Sort, Judged, Demand, Exactly, Value, Pair, Step, Part, Linked, sort_of_expr, addable, given_by, linked, operated, links_start, links_found, link_found, with_link, judged, shape_given, key_codes, misfit_codes, path_codes, given_codes, Node, StepNode, node_step, suffix_node_step, entry_step, expr_step, link_step, suffix_step, link_part, typed_of, expr_found, KnowsTable, KnowsNamed, Sofar, Reached, is_own, sum_layer, Layer, layer_of, went, any_of, expr_node, expr_names, suffix_names, link_names, entry_names}
 use Rattle.epl_values.specs.declared.shape.Shape.TheVariants as shape
 use Rattle.epl_values.specs.declared.shape.Shape.TheOpen as layer
 use Rattle.epl_tree.specs.declared.expression.ExprNode.TheOpen as node

@@ -1,5 +1,6 @@
 -- A template without faults has its shape, and binds its name to its event.
-use Rattle.program_laws.proofs.Common.{◌≡◌, ℕ, ◌<◌, Bool, true, ◌&&◌, List, [], ◌∷◌, ◌++◌, map, length, Option, Some, None, slice_get, refl, sym, ap, subst, ◌∙◌, arith, list_all, and_from, and_parts, Spot, Field, EventShape, Shape, Template, TemplateClause, TypedExpr, TemplateShape, same, Names, if_known, constraint_so, duration_so, Scope, Table, told, event_of, KnowsTable, KnowsNamed, Done, Sofar, Clauses, clause_binds, clauses_bind, constraints_read, fields_of, no_clauses, clauses_read, template_of, template_read, went, any_of, constraint_names, clause_names, template_names}
+use Rattle.std.proofs.Common.{◌≡◌, ◌<◌, ◌&&◌, ◌∷◌, ◌++◌}
+use Rattle.program_laws.proofs.Common.{ℕ, Bool, true, List, [], map, length, Option, Some, None, slice_get, refl, sym, ap, subst, ◌∙◌, arith, list_all, and_from, and_parts, Spot, Field, EventShape, Shape, Template, TemplateClause, TypedExpr, TemplateShape, same, Names, if_known, constraint_so, duration_so, Scope, Table, told, event_of, KnowsTable, KnowsNamed, Done, Sofar, Clauses, clause_binds, clauses_bind, constraints_read, fields_of, no_clauses, clauses_read, template_of, template_read, went, any_of, constraint_names, clause_names, template_names}
 use Rattle.epl_values.specs.declared.shape.Shape.TheVariants as shape
 use Rattle.epl_tree.specs.declared.event.TemplateClause.TheVariants as clause
 use Rattle.typed_program.specs.Terms.{Around, binds_so, is_there, template_so}

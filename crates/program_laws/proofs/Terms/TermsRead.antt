@@ -1,5 +1,6 @@
 -- An event expression without faults has its shapes.
-use Rattle.program_laws.proofs.Common.{◌≡◌, ℕ, Bool, true, false, List, [], ◌∷◌, ◌++◌, map, drop, length, Option, Some, None, refl, sym, ap, subst, ◌∙◌, and_from, and_parts, Spot, Duration, Template, EventExpr, EventExpr-F, map-EventExpr, roll-EventExpr, fold-roll-EventExpr, EventNode, EventNode-F, map-EventNode, roll-EventNode, fold-EventNode, fold-roll-EventNode, ind-EventExpr, TypedExpr, Term, Term-F, map-Term, roll-Term, fold-roll-Term, Names, duration_so, fits_term, Scope, Table, told, KnowsTable, KnowsNamed, Sofar, clauses_bind, template_read, not_codes, each_step, behind_step, each_behind, may_begin, Went, went, either, any_of, duration_names, template_names, limit_names, event_node, event_step, event_names}
+use Rattle.std.proofs.Common.{◌≡◌, ◌∷◌, ◌++◌}
+use Rattle.program_laws.proofs.Common.{ℕ, Bool, true, false, List, [], map, drop, length, Option, Some, None, refl, sym, ap, subst, ◌∙◌, and_from, and_parts, Spot, Duration, Template, EventExpr, EventExpr-F, map-EventExpr, roll-EventExpr, fold-roll-EventExpr, EventNode, EventNode-F, map-EventNode, roll-EventNode, fold-EventNode, fold-roll-EventNode, ind-EventExpr, TypedExpr, Term, Term-F, map-Term, roll-Term, fold-roll-Term, Names, duration_so, fits_term, Scope, Table, told, KnowsTable, KnowsNamed, Sofar, clauses_bind, template_read, not_codes, each_step, behind_step, each_behind, may_begin, Went, went, either, any_of, duration_names, template_names, limit_names, event_node, event_step, event_names}
 use Rattle.epl_tree.specs.declared.event.EventNode.TheOpen as node
 use Rattle.typed_program.specs.declared.term.Term.TheVariants as term
 use Rattle.typed_program.specs.declared.term.Term.TheOpen as layer

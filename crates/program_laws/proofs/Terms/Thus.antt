@@ -1,5 +1,6 @@
 -- What holds of a part of an event expression, and of what stands behind it, where no fault is found in it.
-use Rattle.program_laws.proofs.Common.{◌≡◌, List, [], ◌∷◌, Fault, Found, Sofar, Went, went}
+use Rattle.std.proofs.Common.{◌≡◌, ◌∷◌}
+use Rattle.program_laws.proofs.Common.{List, [], Fault, Found, Sofar, Went, went}
 use Rattle.listener_check.specs.Went.{behind, given, through, ◌>>=◌}
 use Rattle.program_laws.proofs.Exprs.Sure.{Sure}
 use Rattle.program_laws.proofs.Shapes.Lists.{no_both}

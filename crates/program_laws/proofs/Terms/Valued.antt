@@ -1,5 +1,6 @@
 -- A value that names no bound name, and what is read of a value.
-use Rattle.program_laws.proofs.Common.{◌≡◌, Bool, true, false, List, ◌<◌, length, Option, Some, None, is_some, refl, sym, ap, subst, ◌∙◌, true≢false, and_parts, and_from, Shape, Expr, TypedExpr, Operand, same, stands, Names, holds, shape_of, if_known, operand_so, Scope, Seen, Table, Found, Exactly, Part, typed_of, expr_found, KnowsTable, KnowsNamed, wished, answers, Sofar, Naming, is_own, bound, went, expr_names}
+use Rattle.std.proofs.Common.{◌≡◌, ◌<◌}
+use Rattle.program_laws.proofs.Common.{Bool, true, false, List, length, Option, Some, None, is_some, refl, sym, ap, subst, ◌∙◌, true≢false, and_parts, and_from, Shape, Expr, TypedExpr, Operand, same, stands, Names, holds, shape_of, if_known, operand_so, Scope, Seen, Table, Found, Exactly, Part, typed_of, expr_found, KnowsTable, KnowsNamed, wished, answers, Sofar, Naming, is_own, bound, went, expr_names}
 use Rattle.typed_program.specs.declared.term.Operand.TheVariants as operand
 use Rattle.typed_program.specs.Terms.{Around}
 use Rattle.expr_rules.specs.Then.{and_then}
