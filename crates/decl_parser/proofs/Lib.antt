@@ -5,5 +5,4 @@ pub mod Overlaps
 pub mod Laws
 pub mod UnitLaws
 pub mod Whole
-pub mod Cut
-pub mod Tells
+pub mod Cutting

@@ -1,16 +1,13 @@
 -- The place of a fault: the tokens are cut into pieces from the start, each the longest at its place, and the fault
 -- stands at the first token at which no piece begins. The end outside a monitor is no fault.
-use Rattle.std.specs.Prelude.{◌≡◌, ℕ, ◌≤◌, ⊤, List, Option, Result, Ok, Err}
+use Rattle.std.specs.Prelude.{◌≡◌, ℕ, ◌≤◌, List, Option}
 use Rattle.grammar_forms.specs.Rule.{Form, Made, Then, Either, IsOf, Behind}
 use Rattle.epl_lexer.specs.declared.token.Token.{Token}
 use Rattle.epl_tree.specs.declared.name.Name.{Name}
 use Rattle.epl_tree.specs.declared.statement.Stmt.{Stmt}
 use Rattle.epl_tree.specs.declared.types.TypeExpr.{TypeExpr}
 use Rattle.epl_tree.specs.declared.unit.Param.{Param}
-use Rattle.epl_tree.specs.declared.unit.Unit.{Unit as ProgramFile}
 use Rattle.span_text.specs.declared.spot.Spot.{Spot}
-use Rattle.expr_parser.specs.declared.parser.ParseFault.{ParseFault}
-use Rattle.expr_parser.specs.declared.parser.ParseFault.TheVariants.{Syntax, Memory}
 use Rattle.expr_parser.specs.Tokens.{row_of, spot_at}
 use Rattle.expr_parser.specs.Words.{brace, closing_brace}
 use Rattle.decl_parser.specs.declared.region.Region.{Region}
@@ -18,7 +15,7 @@ use Rattle.decl_parser.specs.declared.region.Region.TheVariants as region
 use Rattle.decl_parser.specs.Words.{else_word, monitor_word}
 use Rattle.decl_parser.specs.Rules.{Unfollowed}
 use Rattle.decl_parser.specs.Statements.{IsName, IsStmt}
-use Rattle.decl_parser.specs.Units.{IsEventDecl, IsGlobal, IsSignature, IsEnd, IsUnit}
+use Rattle.decl_parser.specs.Units.{IsEventDecl, IsGlobal, IsSignature, IsEnd}
 
 module _ (tokens : List Token) where
   -- `monitor NAME {`
@@ -65,9 +62,3 @@ module _ (tokens : List Token) where
     pub place : ℕ
     pub stands : IsFaultAt place
     pub is : spot ≡ spot_at tokens place
-
-  -- What the answer says of the tokens: their only tree, or where they have none and that they have none. Want of memory is free.
-  abbrev pub TellsUnit : Result ProgramFile ParseFault → Type 0
-  TellsUnit (Ok unit) = IsUnit tokens unit × ((other : ProgramFile) → IsUnit tokens other → other ≡ unit)
-  TellsUnit (Err (Syntax spot)) = IsFault spot × ((other : ProgramFile) → IsUnit tokens other → ⊥)
-  TellsUnit (Err Memory) = ⊤

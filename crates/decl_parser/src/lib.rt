@@ -8,6 +8,7 @@ mod choice;
 mod command;
 mod event;
 mod event_decl;
+mod files;
 mod level;
 mod listening;
 mod monitor;
@@ -20,5 +21,7 @@ mod rules;
 mod stmt;
 mod word;
 
-pub use expr_parser::ParseFault;
-pub use program::unit;
+pub use files::{discard, with_unit};
+pub use pieces::cut;
+pub use program::unit_read;
+pub use region::Region;

@@ -137,7 +137,7 @@ fn piece(
 
 /// How far the cut into pieces comes from the start: the region there, and the place.
 #[tactic(auto, using(crate::proofs::Turns::cuts))]
-pub(crate) fn cut(alloc: Global, tokens: &[Token]) -> Result<(Region, usize), AllocError>
+pub fn cut(alloc: Global, tokens: &[Token]) -> Result<(Region, usize), AllocError>
     ensures { IfOk result (λ r. r ≡ read.cut tokens.now (length tokens.now) region.Outside 0) }
 {
     let mut here = Region::Outside;

@@ -1,6 +1,6 @@
 ghost use Rattle.std.specs.Prelude.{◌≡◌, ◌<◌, ◌≤◌, length, IfOk, IfSome};
 ghost use Rattle.epl_lexer.specs.Reading as read;
-ghost use Rattle.epl_lexer.specs.Tokens.{TellsTokens, TellsTokensOfBytes};
+ghost use Rattle.epl_lexer.specs.Tokens.{TellsTokens};
 
 use crate::bytes::{Class, is_at, stands};
 use crate::fault::LexFault;
@@ -12,7 +12,6 @@ use crate::token::{Kind, Token, Tokens};
 use crate::word::{number_at, word_at};
 use span_text::Spot;
 use std::alloc::{AllocError, Global};
-use std::str;
 
 /// The tokens of a text, the last of which is the end, or where it has none. Places are bytes of the text.
 pub fn tokens_of(alloc: Global, text: &str) -> Result<Tokens, LexFault>
@@ -34,17 +33,6 @@ pub fn tokens_of(alloc: Global, text: &str) -> Result<Tokens, LexFault>
     }
     tokens.push(token(Kind::End, at, at, spot))?;
     Ok(tokens)
-}
-
-/// The same for bytes; where they are not UTF-8 the fault is at line 1, column 1.
-pub fn tokens_of_bytes(alloc: Global, bytes: &[u8]) -> Result<Tokens, LexFault>
-    requires { length bytes.now < 4294967295 }
-    ensures { TellsTokensOfBytes bytes.now result }
-{
-    match str::from_utf8(bytes) {
-        Ok(text) => tokens_of(alloc, text),
-        Err(_) => Err(LexFault::Lex(Spot::start())),
-    }
 }
 
 fn token(kind: Kind, from: usize, to: usize, spot: Spot) -> Token

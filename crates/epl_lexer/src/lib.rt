@@ -3,7 +3,6 @@
 
 mod bytes;
 mod fault;
-mod laws;
 mod lexer;
 mod place;
 mod quoted;
@@ -14,6 +13,5 @@ mod token;
 mod word;
 
 pub use fault::LexFault;
-pub use laws::{fault_has_one_place, tokens_are_few, tokens_end_once};
-pub use lexer::{tokens_of, tokens_of_bytes};
+pub use lexer::tokens_of;
 pub use token::{KEYWORDS, Kind, SIGNS, Token, Tokens};

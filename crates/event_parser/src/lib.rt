@@ -5,7 +5,6 @@ mod chain;
 mod constraint;
 mod duration;
 mod head;
-mod parser;
 mod part;
 mod range;
 mod rules;
@@ -13,7 +12,5 @@ mod template;
 mod test;
 mod word;
 
-pub use expr_parser::ParseFault;
-pub use parser::event_expression;
 pub use part::EventPart;
 pub use rules::{MAX_DEPTH, event_at};

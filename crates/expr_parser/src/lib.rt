@@ -5,7 +5,6 @@ mod arithmetic;
 mod literal;
 mod logic;
 pub mod operator;
-mod parser;
 mod part;
 mod postfix;
 mod primary;
@@ -14,7 +13,6 @@ pub mod token;
 mod types;
 mod word;
 
-pub use parser::{ParseFault, expression};
 pub use part::Part;
 pub use rules::{arguments_at, expr_at};
 pub use types::{MAX_DEPTH, type_at};

@@ -8,7 +8,7 @@ use Rattle.typed_program.specs.declared.program.Program.{Program}
 use Rattle.typed_program.specs.Typed.{Typed}
 use Rattle.stmt_check.specs.Programs.{IsProgram as IsTyped}
 use Rattle.program_reader.specs.declared.fault.ProgramFault.{ProgramFault}
-use Rattle.program_reader.specs.Programs.{AreTrees}
+use Rattle.epl_syntax.specs.Trees.{AreTrees}
 use Rattle.program_reader.specs.Steps.{ProgramTold}
 use Rattle.program_reader.proofs.Named.{units_named}
 use Rattle.program_reader.proofs.Types.{types_named, few_monitors, are_event_types}

@@ -1,5 +1,4 @@
 pub mod Only
-pub mod Trees
 pub mod Telling
 pub mod Named
 pub mod Types

@@ -20,7 +20,7 @@ use Rattle.grammar_forms.specs.Rule.{Many}
 use Rattle.decl_parser.specs.Statements.{IsName as IsNameForm}
 use Rattle.decl_parser.specs.Units.{IsEventDecl, IsDeclaration, IsUnit}
 use Rattle.type_table.specs.Kinds.{declarations_of}
-use Rattle.program_reader.specs.Programs.{AreTrees}
+use Rattle.epl_syntax.specs.Trees.{AreTrees}
 
 -- what the tokens are
 abbrev kinds_of : List Token → List Kind

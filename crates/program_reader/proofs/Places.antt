@@ -21,7 +21,7 @@ use Rattle.built_forms.specs.Units as built
 use Rattle.program_reader.specs.declared.fault.ProgramFault.{ProgramFault}
 use Rattle.program_reader.specs.declared.fault.ProgramFault.TheVariants.{Lex, Syntax, Typing, Unbuilt, Memory}
 use Rattle.program_reader.specs.Programs.{IsCause}
-use Rattle.program_reader.proofs.Trees.{trees_length}
+use Rattle.epl_syntax.proofs.Trees.{trees_length}
 
 -- the file of a typing fault
 abbrev at_of : CheckFault → ℕ

@@ -1,6 +1,7 @@
 -- What the steps tell is what the whole tells.
-use Rattle.std.proofs.Common.{◌≡◌, ℕ, List, Result, Ok, Err, None, sym, ◌∙◌, subst}
+use Rattle.std.proofs.Common.{◌≡◌, ℕ, List, Option, Result, Ok, Err, None, sym, ◌∙◌, subst}
 use Rattle.std.proofs.lemmas.Option.{none-some}
+use Rattle.span_text.specs.declared.spot.Spot.{Spot}
 use Rattle.epl_tree.specs.declared.unit.Unit.{Unit as Tree}
 use Rattle.type_table.specs.declared.fault.CheckFault.TheVariants as fault
 use Rattle.typed_program.specs.declared.program.Program.{Program}
@@ -10,19 +11,20 @@ use Rattle.built_forms.specs.Units.{unbuilt}
 use Rattle.program_reader.specs.declared.fault.ProgramFault.{ProgramFault}
 use Rattle.program_reader.specs.declared.fault.ProgramFault.TheVariants.{Lex, Syntax, Typing, Unbuilt, Memory}
 use Rattle.program_reader.specs.Programs.{IsProgram, TellsProgram}
-use Rattle.program_reader.specs.Steps.{AreOnlyTrees, TreesTold, ProgramTold, BuiltTold}
+use Rattle.epl_syntax.specs.Trees.{AreOnlyTrees}
+use Rattle.program_reader.specs.Steps.{TreesRead, ProgramTold, BuiltTold}
 use Rattle.program_reader.proofs.Only.{program_only, fault_apart}
 
 -- an accepted program is built, or this is why not
-pub built_told : (trees : List Tree) (program : Program) → IsTyped trees program → Typed program → (r : Result Program ProgramFault) → BuiltTold trees program r → ProgramTold trees r
-built_told trees program is typed (Ok p) t = (subst (IsTyped trees) (sym t.0) is, subst Typed (sym t.0) typed, t.1)
-built_told trees program is typed (Err (Lex file spot)) t = absurd t
-built_told trees program is typed (Err (Syntax file spot)) t = absurd t
-built_told trees program is typed (Err (Typing code file spot)) t = absurd t
-built_told trees program is typed (Err (Unbuilt file spot)) t = (program, is, t)
-built_told trees program is typed (Err Memory) t = absurd t
+pub built_told : (trees : List Tree) (form : Option (ℕ × Spot)) (program : Program) → form ≡ unbuilt trees → IsTyped trees program → Typed program → (r : Result Program ProgramFault) → BuiltTold form program r → ProgramTold trees r
+built_told trees form program found is typed (Ok p) t = (subst (IsTyped trees) (sym t.0) is, subst Typed (sym t.0) typed, sym found ∙ t.1)
+built_told trees form program found is typed (Err (Lex file spot)) t = absurd t
+built_told trees form program found is typed (Err (Syntax file spot)) t = absurd t
+built_told trees form program found is typed (Err (Typing code file spot)) t = absurd t
+built_told trees form program found is typed (Err (Unbuilt file spot)) t = (program, is, sym found ∙ t)
+built_told trees form program found is typed (Err Memory) t = absurd t
 
-pub trees_refused : (texts : List (List ℕ)) (why : ProgramFault) → TreesTold texts (Err why) → TellsProgram texts (Err why)
+pub trees_refused : (texts : List (List ℕ)) (why : ProgramFault) → TreesRead texts (Err why) → TellsProgram texts (Err why)
 trees_refused texts (Lex file spot) t = (t.0, λ q k. t.1 k.trees k.are_trees)
 trees_refused texts (Syntax file spot) t = (t.0, λ q k. t.1 k.trees k.are_trees)
 trees_refused texts (Typing code file spot) t = absurd t

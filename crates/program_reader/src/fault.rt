@@ -1,9 +1,5 @@
-use epl_lexer::LexFault;
-use expr_parser::ParseFault;
 use span_text::Spot;
-use std::alloc::AllocError;
 use thiserror::Error;
-use type_table::CheckFault;
 
 /// Why files have no program. A first number is the place of a file among the program files.
 #[derive(Clone, Copy, Debug, Drop, Error)]
@@ -22,15 +18,4 @@ pub enum ProgramFault {
     Unbuilt(u32, Spot),
     #[error("no memory")]
     Memory,
-}
-
-impl From<AllocError> for ProgramFault {
-    ghost use Rattle.std.specs.Prelude.{◌≡◌};
-    ghost use Rattle.program_reader.specs.declared.fault.ProgramFault.TheVariants.{Memory as NoMemory};
-
-    ghost from_gives = { λ _ e. e ≡ NoMemory };
-
-    fn from(_: AllocError) -> ProgramFault {
-        ProgramFault::Memory
-    }
 }

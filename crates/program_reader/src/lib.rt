@@ -6,4 +6,3 @@ mod program;
 
 pub use fault::ProgramFault;
 pub use program::program_from;
-

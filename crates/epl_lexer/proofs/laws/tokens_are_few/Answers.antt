@@ -1,5 +1,0 @@
-use Rattle.epl_lexer.proofs.Counts.{are_few}
-use Rattle.epl_lexer.proofs.laws.tokens_are_few.Goals as goal
-
-pub returns : goal.returns
-returns c = are_few

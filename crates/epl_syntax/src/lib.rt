@@ -1,0 +1,20 @@
+//! The syntax of programs as a whole: tokens of texts, trees of tokens, and the trees of program files.
+#![tactic(auto)]
+
+mod events;
+mod expressions;
+mod fault;
+mod files;
+mod laws;
+mod lexing;
+mod programs;
+
+pub use decl_parser::discard;
+pub use epl_lexer::{LexFault, Tokens};
+pub use events::event_expression;
+pub use expressions::expression;
+pub use fault::{ParseFault, SyntaxFault};
+pub use files::units;
+pub use laws::{fault_has_one_place, tokens_are_few, tokens_end_once};
+pub use lexing::{tokens_of, tokens_of_bytes};
+pub use programs::unit;
