@@ -22,3 +22,4 @@ pub mod Heads
 pub mod MembersRead
 pub mod FilesRead
 pub mod KindsRead
+pub mod Inversion

@@ -43,11 +43,51 @@ use Rattle.name_resolution.proofs.Sure.{no_both}
 use Rattle.name_resolution.proofs.Agreeing.{Agrees, agrees_fewer}
 use Rattle.name_resolution.proofs.Bound.{Wider, inner_wider, behind_is}
 use Rattle.name_resolution.proofs.Callbacks.{start_matches, bound_are, insert_at, insert_above, insert_below}
+use Rattle.std.proofs.Common.{cond, is_some}
+use Rattle.std.specs.List.{AllByRecursion}
+use Rattle.std.specs.Option.{option_map}
+use Rattle.std.proofs.lemmas.Bool.{and_parts}
+use Rattle.type_table.specs.declared.scope.Scope.{Scope}
+use Rattle.type_table.specs.declared.scope.SeenKind.TheVariants as kind
+use Rattle.type_table.specs.Table.{seen_of}
+use Rattle.expr_rules.specs.Names.{seen}
+use Rattle.listener_check.specs.Bound.{is_own}
+use Rattle.name_resolution.specs.Names.{meaning_of}
+use Rattle.name_resolution.specs.Agreeing.{meant_by}
+use Rattle.name_resolution.proofs.Bound.{IsBound}
+use Rattle.name_resolution.proofs.Heads.{place_some}
+use Rattle.name_resolution.proofs.Claims.{is_called, first_by, first_behind, seen_first, or_else}
 use Rattle.name_resolution.proofs.Claims.{by_seen, meaning_mapped, agrees_more, grown_same, Extends, extends_same, Matches, Ready, Fits, Holds, Claim, Still, claim_still, claim_looks, claim_tells, claim_behind, claim_as}
 use Rattle.name_resolution.proofs.OperandsRead.{Ends, Room}
 use Rattle.name_resolution.proofs.TermsRead.{terms_stay}
 use Rattle.name_resolution.proofs.BodyRead.{Within, Fit, ExprAt}
 use Rattle.name_resolution.proofs.StatementsRead.{no_when, S, N, Done, at_form, done_as, ForPart, ForNode, ForOn, Listens, done_claim, one_expr, send_claim, declare_claim, declare_as_claim, assign_claim, jump_claim, return_claim, spawn_claim, monitor_claim, block_claim, while_claim, for_claim, if_claim, on_claim, declare_on_claim, assign_on_claim}
+
+-- ---- a bound name
+
+none_is : {A : Type 0} (o : Option A) → is_some o ≡ false → o ≡ None
+none_is None h = refl
+none_is (Some x) h = absurd (cc)
+
+not_true : (b : Bool) → not b ≡ true → b ≡ false
+not_true true h = absurd (cc)
+not_true false h = refl
+
+all_by : (x : Seen) (b : Bool) (s : Seen) (o : Option Seen) → IsBound x → cond b (Some x) o ≡ Some s → (o ≡ Some s → IsBound s) → IsBound s
+all_by x true s o p h rest = let e : x ≡ s = cc in subst IsBound e p
+all_by x false s o p h rest = rest h
+
+all_first : (q : Seen → Bool) (xs : List Seen) (s : Seen) → AllByRecursion IsBound xs → first_by q xs ≡ Some s → IsBound s
+all_first q [] s all h = absurd (cc)
+all_first q (x ∷ xs) s all h = all_by x (q x) s (first_by q xs) all.0 h (λ k. all_first q xs s all.1 k)
+
+-- what an own name of the event expression stands for
+owned_at : (scope inner : Scope) (xs : List Seen) → inner.names ≡ scope.names ++ xs → AllByRecursion IsBound xs → (name : List ℕ) (s : Seen) → is_own scope inner name ≡ true → seen inner name ≡ Some s → (meaning_of (map by_seen xs) name ≡ Some (meant_by s)) × (s.kind ≡ kind.Bound)
+owned_at scope inner xs wider all name s own at =
+    let outside : first_by (is_called name) scope.names ≡ None = none_is (first_by (is_called name) scope.names) (sym (place_some (is_called name) scope.names) ∙ not_true (is_some (seen_of scope name)) (and_parts (not (is_some (seen_of scope name))) (is_some (seen_of inner name)) own).0) in
+    let first : first_by (is_called name) xs ≡ Some s =
+    sym (ap (λ (o : Option Seen). or_else o (first_by (is_called name) xs)) outside) ∙ sym (first_behind (is_called name) scope.names xs) ∙ ap (λ (l : List Seen). first_by (is_called name) l) (sym wider) ∙ sym (seen_first inner name) ∙ at in
+    (meaning_mapped xs name ∙ ap (λ (o : Option Seen). option_map meant_by o) first, all_first (is_called name) xs s all first)
 
 module _ (around : Around) (sites : List Site) (monitor : ℕ) where
   -- ---- listeners
@@ -57,11 +97,11 @@ module _ (around : Around) (sites : List Site) (monitor : ℕ) where
     few : callbacks + length s.sites ≤ 65534
     bound : term.bound ≡ map bound_local (bound_in body.table s.scope (out-Listening l).event)
     bound_so : BoundAre (map by_seen (bound_in body.table s.scope (out-Listening l).event)) term.bound
-    resolved : TermIs (record { around = around; names = h.names ++ map by_seen (bound_in body.table s.scope (out-Listening l).event); operands = term.operands }) (out-Listening l).event term.term
+    resolved : TermIs (record { around = around; names = h.names ++ map by_seen (bound_in body.table s.scope (out-Listening l).event); bound = map by_seen (bound_in body.table s.scope (out-Listening l).event); operands = term.operands }) (out-Listening l).event term.term
 
   module _ (named : Names) (callbacks : ℕ) (body : Body) (fit : Fit around monitor callbacks body) where
     pub term_at : (e : EventExpr) → Within (event_names e) named → (s : State) (h : Here) → (term_found body.table s.scope e).faults ≡ [] → Ready sites monitor s → Matches named h s
-        → (BoundAre (map by_seen (bound_in body.table s.scope e)) (term_found body.table s.scope e).part.bound) × TermIs (record { around = around; names = h.names ++ map by_seen (bound_in body.table s.scope e); operands = (term_found body.table s.scope e).part.operands }) e (term_found body.table s.scope e).part.term
+        → (BoundAre (map by_seen (bound_in body.table s.scope e)) (term_found body.table s.scope e).part.bound) × TermIs (record { around = around; names = h.names ++ map by_seen (bound_in body.table s.scope e); bound = map by_seen (bound_in body.table s.scope e); operands = (term_found body.table s.scope e).part.operands }) e (term_found body.table s.scope e).part.term
     term_at e w s h none r m =
         let inner = inner_of body.table s.scope e in
         let wide = inner_wider body.table s.scope e in
@@ -70,7 +110,7 @@ module _ (around : Around) (sites : List Site) (monitor : ℕ) where
         let wider : inner.names ≡ s.scope.names ++ xs = wide.are ∙ ap (λ (l : List Seen). s.scope.names ++ l) (sym more) in
         let known : Agrees (h.names ++ map by_seen xs) inner (event_names e) = agrees_fewer (h.names ++ map by_seen xs) inner (event_names e) named w (agrees_more h.names s.scope inner xs (map by_seen xs) named wider (λ name. meaning_mapped xs name) m.names) in
         let names = h.names ++ map by_seen xs in
-        let thus = terms_stay around names body.table s.scope inner fit.types (fit.acts inner (wide.own ∙ r.own) (wide.actions ∙ r.actions)) e known false false [] nothing_yet (record { few = omega arith; limit = omega arith }) in
+        let thus = terms_stay around names (map by_seen xs) body.table s.scope inner fit.types (fit.acts inner (wide.own ∙ r.own) (wide.actions ∙ r.actions)) (owned_at s.scope inner xs wider (subst (λ (ys : List Seen). AllByRecursion IsBound ys) (sym more) wide.bound)) e known false false [] nothing_yet (record { few = omega arith; limit = omega arith }) in
         let stays = thus.where_clear none in (
           subst (λ (ys : List Seen). BoundAre (map by_seen ys) (map bound_local ys)) (sym more) (bound_are wide.more wide.bound),
           stays.good (term_found body.table s.scope e).part.operands (record { more = []; are = sym (append-nil _) }),
