@@ -23,3 +23,4 @@ pub mod MembersRead
 pub mod FilesRead
 pub mod KindsRead
 pub mod Inversion
+pub mod BoundRead

@@ -82,35 +82,42 @@ pub record Spare (s : Sofar) : Type 0 where
   pub fewer : length s.operands < s.sums
   pub limit : s.sums ≤ 192
 
--- the operands so far are the first of these
-pub record Ends (t : Sofar) (operands : List TypedExpr) : Type 0 where
+-- the operands and names so far are the first of these
+pub record Ends (t : Sofar) (operands : List TypedExpr) (listed : List (List ℕ)) : Type 0 where
   pub more : List TypedExpr
   pub are : operands ≡ t.operands ++ more
+  pub more_names : List (List ℕ)
+  pub names_are : listed ≡ t.names ++ more_names
 
 pub record Behind (s t : Sofar) : Type 0 where
   pub room : Room t
-  pub ends : Ends s t.operands
+  pub ends : Ends s t.operands t.names
 
-ends_on : (s t : Sofar) (operands : List TypedExpr) → Ends s t.operands → Ends t operands → Ends s operands
-ends_on s t operands h k = record { more = h.more ++ k.more; are = k.are ∙ ap (λ (l : List TypedExpr). l ++ k.more) h.are ∙ append_assoc s.operands h.more k.more }
+ends_on : (s t : Sofar) (operands : List TypedExpr) (listed : List (List ℕ)) → Ends s t.operands t.names → Ends t operands listed → Ends s operands listed
+ends_on s t operands listed h k = record {
+  more = h.more ++ k.more;
+  are = k.are ∙ ap (λ (l : List TypedExpr). l ++ k.more) h.are ∙ append_assoc s.operands h.more k.more;
+  more_names = h.more_names ++ k.more_names;
+  names_are = k.names_are ∙ ap (λ (l : List (List ℕ)). l ++ k.more_names) h.names_are ∙ append_assoc s.names h.more_names k.more_names;
+}
 
 behind_on : (s t u : Sofar) → Behind s t → Behind t u → Behind s u
-behind_on s t u h k = record { room = k.room; ends = ends_on s t u.operands h.ends k.ends }
+behind_on s t u h k = record { room = k.room; ends = ends_on s t u.operands u.names h.ends k.ends }
 
-pub behind_same : (s t : Sofar) → t.operands ≡ s.operands → Room t → Behind s t
-behind_same s t same room = record { room = room; ends = record { more = []; are = same ∙ sym (append-nil s.operands) } }
+pub behind_same : (s t : Sofar) → t.operands ≡ s.operands → t.names ≡ s.names → Room t → Behind s t
+behind_same s t same names room = record { room = room; ends = record { more = []; are = same ∙ sym (append-nil s.operands); more_names = []; names_are = names ∙ sym (append-nil s.names) } }
 
 behind_summed : (s t : Sofar) → Behind (with_sum s) t → Behind s t
-behind_summed s t h = let e = h.ends in record { room = h.room; ends = record { more = e.more; are = e.are } }
+behind_summed s t h = let e = h.ends in record { room = h.room; ends = record { more = e.more; are = e.are; more_names = e.more_names; names_are = e.names_are } }
 
-module _ (around : Around) (names bound_names : List Named) where
+module _ (around : Around) (names bound_names : List Named) (listed : List (List ℕ)) where
   abbrev pub within : List TypedExpr → Inside
   within operands = record { around = around; names = names; bound = bound_names; operands = operands }
 
   -- what holds of a part, among the operands that are there in the end
   pub record Stays {A : Type 0} (P : Inside → A → Type 0) (s : Sofar) (x : A) (t : Sofar) : Type 0 where
     pub behind : Behind s t
-    pub good : (operands : List TypedExpr) → Ends t operands → P (within operands) x
+    pub good : (operands : List TypedExpr) → Ends t operands listed → P (within operands) x
 
   -- a part, and what is read behind it
   pub stays_then : {A B : Type 0} (P : Inside → A → Type 0) (Q : Inside → B → Type 0) (w : Went A) (n : A → Sofar → Went B) (s : Sofar) → Thus (Stays P s) w
@@ -118,11 +125,11 @@ module _ (around : Around) (names bound_names : List Named) where
   stays_then P Q w n s first next = thus_then (Stays P s) (Stays Q s) w n first (λ x t h.
       thus_weaker (Stays (λ i y. P i x → Q i y) t) (Stays Q s) (n x t) (next x t h.behind.room) (λ y u k. record {
         behind = behind_on s t u h.behind k.behind;
-        good = λ operands ends. k.good operands ends (h.good operands (ends_on t u operands k.behind.ends ends));
+        good = λ operands ends. k.good operands ends (h.good operands (ends_on t u operands listed k.behind.ends ends));
       }))
 
   pub stays_went : {A : Type 0} (P : Inside → A → Type 0) (x : A) (s : Sofar) → Room s → ((i : Inside) → i ≡ within i.operands → P i x) → Thus (Stays P s) (went x s)
-  stays_went P x s room h = thus_went (Stays P s) x s (record { behind = behind_same s s refl room; good = λ operands ends. h (within operands) refl })
+  stays_went P x s room h = thus_went (Stays P s) x s (record { behind = behind_same s s refl refl room; good = λ operands ends. h (within operands) refl })
 
   pub stays_behind : {A : Type 0} (P : Inside → A → Type 0) (spot : Spot) (codes : List ℕ) (w : Went A) (s : Sofar) → (codes ≡ [] → Thus (Stays P s) w) → Thus (Stays P s) (behind (told spot codes) w)
   stays_behind P spot codes w s h = thus_behind (Stays P s) (told spot codes) w (λ none. h (no_told spot codes none))
@@ -150,7 +157,7 @@ module _ (around : Around) (names bound_names : List Named) where
   last_at [] x more = refl
   last_at (y ∷ xs) x more = last_at xs x more
 
-  placed_at : (s : Sofar) (x : TypedExpr) (operands : List TypedExpr) → Spare s → Ends (record s { operands = s.operands ++ x ∷ [] }) operands → slice_get operands (short (length s.operands)) ≡ Some x
+  placed_at : (s : Sofar) (x : TypedExpr) (operands : List TypedExpr) → Spare s → Ends (record s { operands = s.operands ++ x ∷ [] }) operands listed → slice_get operands (short (length s.operands)) ≡ Some x
   placed_at s x operands r ends =
       let fewer = r.fewer in let limit = r.limit in
       let small : short (length s.operands) ≡ length s.operands = omega arith in
@@ -168,7 +175,7 @@ module _ (around : Around) (names bound_names : List Named) where
       let long = length-append s.operands (x ∷ []) in
       let fewer = r.fewer in
       thus_went (Stays (PlacedAs P) s) (short (length s.operands)) (record s { operands = s.operands ++ x ∷ [] }) (record {
-        behind = record { room = record { few = omega arith; limit = r.limit }; ends = record { more = x ∷ []; are = refl } };
+        behind = record { room = record { few = omega arith; limit = r.limit }; ends = record { more = x ∷ []; are = refl; more_names = []; names_are = sym (append-nil s.names) } };
         good = λ operands ends. record { value = x; there = placed_at s x operands r ends; good = p };
       })
 
@@ -370,10 +377,10 @@ module _ (around : Around) (names bound_names : List Named) where
     unfolding given_operand
     given_stays e x s spare h =
         stays_then (PlacedAs (Valued e)) (OperandOf e) (placed x s) (λ at t. went (operand.Given at) t) s (placed_stays (Valued e) x s spare h)
-        (λ at t room. thus_went (Stays (λ i o. PlacedAs (Valued e) i at → OperandOf e i o) t) (operand.Given at) t (record { behind = behind_same t t refl room; good = λ operands ends p. rule.given (given_by e operands at p) }))
+        (λ at t room. thus_went (Stays (λ i o. PlacedAs (Valued e) i at → OperandOf e i o) t) (operand.Given at) t (record { behind = behind_same t t refl refl room; good = λ operands ends p. rule.given (given_by e operands at p) }))
 
     bound_stays : (e : Expr) (r : Reached) (s : Sofar) → Room s → ((operands : List TypedExpr) → PathIs (within operands) e r.place r.fields) → Thus (Stays (OperandOf e) s) (went (bound r) s)
-    bound_stays e r s room p = thus_went (Stays (OperandOf e) s) (bound r) s (record { behind = behind_same s s refl room; good = λ operands ends. rule.bound (p operands) })
+    bound_stays e r s room p = thus_went (Stays (OperandOf e) s) (bound r) s (record { behind = behind_same s s refl refl room; good = λ operands ends. rule.bound (p operands) })
 
     -- the one link of a sum
     no_more_links : {ls : List Link} {ys : List TypedLink} → LinksAre around names ls ys → ls ≡ [] → ys ≡ []
@@ -399,7 +406,7 @@ module _ (around : Around) (names bound_names : List Named) where
         let is : typed_layer x ≡ typed.Sum q.value (y.0 ∷ []) = q.is ∙ ap (λ (l : List TypedLink). typed.Sum q.value l) y.1 in
         subst (λ (l : Layer). Thus (Stays (OperandOf e) s) (sum_layer n l s)) (sym is)
         (stays_then (PlacedAs (Valued (out-Link so.link).operand)) (OperandOf e) (placed (out-TypedLink y.0).operand s) (λ at t. went (signed n r at) t) s (placed_stays (Valued (out-Link so.link).operand) (out-TypedLink y.0).operand s spare y.2)
-        (λ at t room. thus_went (Stays (λ i z. PlacedAs (Valued (out-Link so.link).operand) i at → OperandOf e i z) t) (signed n r at) t (record { behind = behind_same t t refl room; good = λ operands ends p. make r (within operands) at (path_is operands so.first q.value so.path first_known q.first_is) (given_by (out-Link so.link).operand operands at p) })))
+        (λ at t room. thus_went (Stays (λ i z. PlacedAs (Valued (out-Link so.link).operand) i at → OperandOf e i z) t) (signed n r at) t (record { behind = behind_same t t refl refl room; good = λ operands ends p. make r (within operands) at (path_is operands so.first q.value so.path first_known q.first_is) (given_by (out-Link so.link).operand operands at p) })))
 
     operand_by : (n : Naming) (e : Expr) (x : TypedExpr) (s : Sofar) → NamedAs n e → Known (expr_names e) → Spare s → ExprIs around names e x → Thus (Stays (OperandOf e) s) (operand_of n x s)
     unfolding operand_of

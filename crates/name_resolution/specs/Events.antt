@@ -131,7 +131,7 @@ pub data ConstraintsAre (i : Inside) (fields : List Field) : ℕ → List Constr
 -- the clauses behind those that gave a name and a duration, and what they give together
 pub data ClausesAre (i : Inside) : Option ℕ → Option ℕ → List TemplateClause → Option ℕ → Option ℕ → Type 0 where
   no_clauses : {binds within : Option ℕ} → ClausesAre i binds within [] binds within
-  as_name : {binds within binds' within' : Option ℕ} {name : Name} {place : ℕ} {cs : List TemplateClause} → ClausesAre i (Some place) within cs binds' within' → ClausesAre i binds within (clause.As name ∷ cs) binds' within'
+  as_name : {binds within binds' within' : Option ℕ} {name : Name} {place : ℕ} {s : Option Shape} {cs : List TemplateClause} → BoundAs i name.text place s → ClausesAre i (Some place) within cs binds' within' → ClausesAre i binds within (clause.As name ∷ cs) binds' within'
   in_time : {binds within binds' within' : Option ℕ} {d : Duration} {at : ℕ} {cs : List TemplateClause} → DurationIs i d.node at → ClausesAre i binds (Some at) cs binds' within' → ClausesAre i binds within (clause.Within d ∷ cs) binds' within'
 
 abbrev pub fields_at : Option EventShape → List Field
