@@ -23,3 +23,5 @@ pub mod Heads
 pub mod MembersRead
 pub mod FilesRead
 pub mod KindsRead
+pub mod Inversion
+pub mod BoundRead

@@ -24,11 +24,73 @@ use Rattle.name_resolution.proofs.Sure.{no_both}
 use Rattle.name_resolution.proofs.Agreeing.{Agrees, agrees_fewer}
 use Rattle.name_resolution.proofs.Bound.{Wider, inner_wider, behind_is}
 use Rattle.name_resolution.proofs.Callbacks.{start_matches, bound_are, insert_at, insert_above, insert_below}
+use Rattle.std.proofs.Common.{cond, is_some}
+use Rattle.std.specs.List.{AllByRecursion}
+use Rattle.std.specs.Option.{option_map}
+use Rattle.std.proofs.lemmas.Bool.{and_parts}
+use Rattle.type_table.specs.declared.scope.Scope.{Scope}
+use Rattle.type_table.specs.declared.scope.SeenKind.TheVariants as kind
+use Rattle.type_table.specs.Table.{seen_of}
+use Rattle.expr_rules.specs.Names.{seen}
+use Rattle.listener_check.specs.Bound.{is_own}
+use Rattle.name_resolution.specs.Names.{meaning_of, Meant}
+use Rattle.std.proofs.Math.Seq.{drop-append_seam}
+use Rattle.typed_program.specs.declared.statement.Variable.TheVariants as var
+use Rattle.type_table.specs.declared.scope.SeenKind.{SeenKind}
+use Rattle.type_table.specs.declared.table.Table.{Table}
+use Rattle.listener_check.specs.Bound.{is_among}
+use Rattle.name_resolution.specs.Agreeing.{variable_by}
+use Rattle.name_resolution.proofs.BoundRead.{Numbered, Tied, expr_ties, place_meant}
+use Rattle.name_resolution.specs.Agreeing.{meant_by}
+use Rattle.name_resolution.proofs.Bound.{IsBound}
+use Rattle.name_resolution.proofs.Heads.{place_some}
+use Rattle.name_resolution.proofs.Claims.{is_called, first_by, first_behind, seen_first, or_else}
 use Rattle.name_resolution.proofs.Claims.{by_seen, meaning_mapped, agrees_more, grown_same, Extends, extends_same, Matches, Ready, Fits, Holds, Claim, Still, claim_still, claim_looks, claim_tells, claim_behind, claim_as}
 use Rattle.name_resolution.proofs.OperandsRead.{Ends, Room}
 use Rattle.name_resolution.proofs.TermsRead.{terms_stay}
 use Rattle.name_resolution.proofs.BodyRead.{Within, Fit, ExprAt}
 use Rattle.name_resolution.proofs.StatementsRead.{no_when, S, N, Done, at_form, done_as, ForPart, ForNode, ForOn, Listens, done_claim, one_expr, send_claim, declare_claim, declare_as_claim, assign_claim, jump_claim, return_claim, spawn_claim, monitor_claim, block_claim, while_claim, for_claim, if_claim, on_claim, declare_on_claim, assign_on_claim}
+
+-- ---- a bound name
+
+none_is : {A : Type 0} (o : Option A) → is_some o ≡ false → o ≡ None
+none_is None h = refl
+none_is (Some x) h = absurd (cc)
+
+not_true : (b : Bool) → not b ≡ true → b ≡ false
+not_true true h = absurd (cc)
+not_true false h = refl
+
+all_by : (x : Seen) (b : Bool) (s : Seen) (o : Option Seen) → IsBound x → cond b (Some x) o ≡ Some s → (o ≡ Some s → IsBound s) → IsBound s
+all_by x true s o p h rest = let e : x ≡ s = cc in subst IsBound e p
+all_by x false s o p h rest = rest h
+
+all_first : (q : Seen → Bool) (xs : List Seen) (s : Seen) → AllByRecursion IsBound xs → first_by q xs ≡ Some s → IsBound s
+all_first q [] s all h = absurd (cc)
+all_first q (x ∷ xs) s all h = all_by x (q x) s (first_by q xs) all.0 h (λ k. all_first q xs s all.1 k)
+
+-- what an own name of the event expression stands for
+owned_at : (scope inner : Scope) (xs : List Seen) → inner.names ≡ scope.names ++ xs → AllByRecursion IsBound xs → (name : List ℕ) (s : Seen) → is_own scope inner name ≡ true → seen inner name ≡ Some s → (meaning_of (map by_seen xs) name ≡ Some (meant_by s)) × (s.kind ≡ kind.Bound)
+owned_at scope inner xs wider all name s own at =
+    let outside : first_by (is_called name) scope.names ≡ None = none_is (first_by (is_called name) scope.names) (sym (place_some (is_called name) scope.names) ∙ not_true (is_some (seen_of scope name)) (and_parts (not (is_some (seen_of scope name))) (is_some (seen_of inner name)) own).0) in
+    let first : first_by (is_called name) xs ≡ Some s =
+    sym (ap (λ (o : Option Seen). or_else o (first_by (is_called name) xs)) outside) ∙ sym (first_behind (is_called name) scope.names xs) ∙ ap (λ (l : List Seen). first_by (is_called name) l) (sym wider) ∙ sym (seen_first inner name) ∙ at in
+    (meaning_mapped xs name ∙ ap (λ (o : Option Seen). option_map meant_by o) first, all_first (is_called name) xs s all first)
+
+-- the bound names, as they were read
+record Listed (xs : List Seen) (listed : List (List ℕ)) : Type 0 where
+  named : map (λ (y : Seen). y.name) xs ≡ listed
+  numbered : Numbered 0 xs
+
+tied_bound : (table : Table) (scope inner : Scope) (xs : List Seen) (listed : List (List ℕ)) → inner.names ≡ scope.names ++ xs → Tied table scope inner listed → Listed xs listed
+tied_bound table scope inner xs listed wider t =
+    let same : t.bound ≡ xs = sym (drop-append_seam scope.names t.bound) ∙ ap (λ (l : List Seen). drop (length scope.names) l) (sym t.are ∙ wider) ∙ drop-append_seam scope.names xs in
+    record { named = subst (λ (l : List Seen). map (λ (y : Seen). y.name) l ≡ listed) same t.named; numbered = subst (λ (l : List Seen). Numbered 0 l) same t.numbered }
+
+placed_at : (xs : List Seen) (listed : List (List ℕ)) → AllByRecursion IsBound xs → Listed xs listed → (before : List (List ℕ)) (name : List ℕ) (more : List (List ℕ)) → listed ≡ (before ++ name ∷ []) ++ more → is_among before name ≡ false → (m : Meant) × (meaning_of (map by_seen xs) name ≡ Some m) × (m.variable ≡ var.Local (short (length before)))
+placed_at xs listed all l before name more are apart =
+    let p = place_meant 0 xs before name more all l.numbered (l.named ∙ are) apart in
+    (meant_by p.0, meaning_mapped xs name ∙ ap (λ (o : Option Seen). option_map meant_by o) p.1, ap (λ (k : SeenKind). variable_by k p.0.number) p.3 ∙ (let z : 0 + length before ≡ length before = omega arith in ap (λ (n : ℕ). var.Local n) (p.2 ∙ ap short z)))
 
 module _ (around : Around) (sites : List Site) (monitor : ℕ) where
   -- ---- listeners
@@ -38,11 +100,11 @@ module _ (around : Around) (sites : List Site) (monitor : ℕ) where
     few : callbacks + length s.sites ≤ 65534
     bound : term.bound ≡ map bound_local (bound_in body.table s.scope (out-Listening l).event)
     bound_so : BoundAre (map by_seen (bound_in body.table s.scope (out-Listening l).event)) term.bound
-    resolved : TermIs (record { around = around; names = h.names ++ map by_seen (bound_in body.table s.scope (out-Listening l).event); operands = term.operands }) (out-Listening l).event term.term
+    resolved : TermIs (record { around = around; names = h.names ++ map by_seen (bound_in body.table s.scope (out-Listening l).event); bound = map by_seen (bound_in body.table s.scope (out-Listening l).event); operands = term.operands }) (out-Listening l).event term.term
 
   module _ (named : Names) (callbacks : ℕ) (body : Body) (fit : Fit around monitor callbacks body) where
     pub term_at : (e : EventExpr) → Within (event_names e) named → (s : State) (h : Here) → (term_found body.table s.scope e).faults ≡ [] → Ready sites monitor s → Matches named h s
-        → (BoundAre (map by_seen (bound_in body.table s.scope e)) (term_found body.table s.scope e).part.bound) × TermIs (record { around = around; names = h.names ++ map by_seen (bound_in body.table s.scope e); operands = (term_found body.table s.scope e).part.operands }) e (term_found body.table s.scope e).part.term
+        → (BoundAre (map by_seen (bound_in body.table s.scope e)) (term_found body.table s.scope e).part.bound) × TermIs (record { around = around; names = h.names ++ map by_seen (bound_in body.table s.scope e); bound = map by_seen (bound_in body.table s.scope e); operands = (term_found body.table s.scope e).part.operands }) e (term_found body.table s.scope e).part.term
     term_at e w s h none r m =
         let inner = inner_of body.table s.scope e in
         let wide = inner_wider body.table s.scope e in
@@ -51,10 +113,15 @@ module _ (around : Around) (sites : List Site) (monitor : ℕ) where
         let wider : inner.names ≡ s.scope.names ++ xs = wide.are ∙ ap (λ (l : List Seen). s.scope.names ++ l) (sym more) in
         let known : Agrees (h.names ++ map by_seen xs) inner (event_names e) = agrees_fewer (h.names ++ map by_seen xs) inner (event_names e) named w (agrees_more h.names s.scope inner xs (map by_seen xs) named wider (λ name. meaning_mapped xs name) m.names) in
         let names = h.names ++ map by_seen xs in
-        let thus = terms_stay around names body.table s.scope inner fit.types (fit.acts inner (wide.own ∙ r.own) (wide.actions ∙ r.actions)) e known false false [] nothing_yet (record { few = omega arith; limit = omega arith }) in
+        let listed = (term_read body.table s.scope inner e false false [] nothing_yet).after.names in
+        let bound_so : AllByRecursion IsBound xs = subst (λ (ys : List Seen). AllByRecursion IsBound ys) (sym more) wide.bound in
+        let ties = expr_ties body.table s.scope inner e in
+        let tied = (ties.ties false false [] s.scope nothing_yet (record { bound = []; are = sym (append-nil s.scope.names); named = refl; numbered = tt })).where_clear none in
+        let placed = placed_at xs listed bound_so (tied_bound body.table s.scope inner xs listed wider tied) in
+        let thus = terms_stay around names (map by_seen xs) listed body.table s.scope inner fit.types (fit.acts inner (wide.own ∙ r.own) (wide.actions ∙ r.actions)) (owned_at s.scope inner xs wider bound_so) placed e known false false [] nothing_yet (record { few = omega arith; limit = omega arith }) in
         let stays = thus.where_clear none in (
           subst (λ (ys : List Seen). BoundAre (map by_seen ys) (map bound_local ys)) (sym more) (bound_are wide.more wide.bound),
-          stays.good (term_found body.table s.scope e).part.operands (record { more = []; are = sym (append-nil _) }),
+          stays.good (term_found body.table s.scope e).part.operands (record { more = []; are = sym (append-nil _); more_names = []; names_are = sym (append-nil listed) }),
         )
 
     listening : (l : Listening) → Within (event_names (out-Listening l).event) named → (takes : Bool) (s : State) (h : Here) → on_codes body takes s ≡ [] → (term_found body.table s.scope (out-Listening l).event).faults ≡ [] → Ready sites monitor s → Matches named h s → Opened l callbacks body s (term_found body.table s.scope (out-Listening l).event).part h

@@ -1,70 +1,97 @@
 -- Event expressions in which no fault is found are their terms.
-use Rattle.std.proofs.Common.{◌≡◌, ◌+◌, ◌||◌, if◌then◌else◌, ◌∷◌, ◌++◌}
-use Rattle.name_resolution.proofs.Common.{ℕ, min, Bool, true, false, not, List, [], map, length, drop, slice_get, Option, Some, None, refl, subst, sym, ap, ◌∙◌, AllByRecursion, Spot, EventShape, Field, Shape, Duration, EventExpr, EventExpr-F, map-EventExpr, roll-EventExpr, fold-roll-EventExpr, EventNode, EventNode-F, map-EventNode, roll-EventNode, fold-EventNode, fold-roll-EventNode, ind-EventExpr, TemplateClause, Comparison, Expr, Name, Operand, Scope, Table, told, event_of, Sofar, Went, went, Names, either, any_of, event_names, duration_names, expr_names, Named, Around, type_named, Inside, DurationIs, OperandIs, TermIs}
+use Rattle.std.proofs.Common.{◌≡◌, ℕ, ◌+◌, min, Bool, true, false, not, ◌||◌, if◌then◌else◌, List, [], ◌∷◌, ◌++◌, map, length, drop, slice_get, Option, Some, None, refl, subst, sym, ap, ◌∙◌}
 use Rattle.std.proofs.lemmas.List.{length_push}
+use Rattle.std.specs.List.{AllByRecursion}
+use Rattle.span_text.specs.declared.spot.Spot.{Spot}
+use Rattle.epl_values.specs.declared.shape.EventShape.{EventShape}
+use Rattle.epl_values.specs.declared.shape.Field.{Field}
+use Rattle.epl_values.specs.declared.shape.Shape.{Shape}
 use Rattle.epl_tree.specs.declared.event.Constraint.{Constraint}
 use Rattle.epl_tree.specs.declared.event.ConstraintNode.{ConstraintNode}
 use Rattle.epl_tree.specs.declared.event.ConstraintNode.TheVariants as node
-use Rattle.epl_tree.specs.declared.event.EventExpr.{out-EventExpr, out-roll-EventExpr}
-use Rattle.epl_tree.specs.declared.event.EventNode.{out-EventNode, out-roll-EventNode}
+use Rattle.epl_tree.specs.declared.event.Duration.{Duration}
+use Rattle.epl_tree.specs.declared.event.EventExpr.{EventExpr, EventExpr-F, map-EventExpr, roll-EventExpr, out-EventExpr, out-roll-EventExpr, fold-roll-EventExpr}
+use Rattle.epl_tree.specs.declared.event.EventNode.{EventNode, EventNode-F, map-EventNode, roll-EventNode, out-EventNode, out-roll-EventNode, fold-EventNode, fold-roll-EventNode}
 use Rattle.epl_tree.specs.declared.event.EventNode.TheOpen as event
+use Rattle.epl_tree.specs.declared.event.EventNode.TheFolds.{ind-EventExpr}
 use Rattle.epl_tree.specs.declared.event.Range.{Range}
 use Rattle.epl_tree.specs.declared.event.Template.{Template}
+use Rattle.epl_tree.specs.declared.event.TemplateClause.{TemplateClause}
 use Rattle.epl_tree.specs.declared.event.TemplateClause.TheVariants as clause
+use Rattle.epl_tree.specs.declared.expression.Comparison.{Comparison}
 use Rattle.epl_tree.specs.declared.expression.Comparison.TheVariants as comparison
+use Rattle.epl_tree.specs.declared.expression.Expr.{Expr}
+use Rattle.epl_tree.specs.declared.name.Name.{Name}
 use Rattle.typed_program.specs.declared.term.Constraint.{Constraint as Typed}
 use Rattle.typed_program.specs.declared.term.ConstraintNode.{ConstraintNode as TypedNode}
 use Rattle.typed_program.specs.declared.term.ConstraintNode.TheVariants as asked
+use Rattle.typed_program.specs.declared.term.Operand.{Operand}
 use Rattle.typed_program.specs.declared.term.TemplateShape.{TemplateShape}
 use Rattle.typed_program.specs.declared.term.Term.{Term, Term-F, out-Term}
 use Rattle.typed_program.specs.declared.term.Term.TheOpen as layer
 use Rattle.typed_program.specs.declared.term.Term.TheVariants as term
+use Rattle.type_table.specs.declared.scope.Scope.{Scope}
+use Rattle.type_table.specs.declared.table.Table.{Table}
+use Rattle.type_table.specs.Found.{told}
+use Rattle.type_table.specs.Table.{event_of}
 use Rattle.listener_check.specs.declared.constraint.Done.{Done}
+use Rattle.listener_check.specs.declared.sofar.Sofar.{Sofar}
 use Rattle.listener_check.specs.declared.template.Clauses.{Clauses}
 use Rattle.listener_check.specs.Constraints.{number_of, missing_code, field_codes, is_named, none_done, compares_read, lies, lies_read, asked_read, placed_read, missing_read, found_read, numbered_read, constraint_read, constraint_step, constraints_read}
 use Rattle.listener_check.specs.Durations.{duration_read}
 use Rattle.listener_check.specs.Limits.{short, leaf_codes, with_leaf, leaf_read}
 use Rattle.listener_check.specs.Operands.{operand_read}
-use Rattle.listener_check.specs.Templates.{fields_of, name_codes, with_name, name_read, no_clauses, clause_read, clauses_read, template_of, parts_read, typed_read, template_read}
+use Rattle.listener_check.specs.Templates.{fields_of, is_taken, is_full, name_codes, with_name, name_read, no_clauses, clause_read, clauses_read, template_of, parts_read, typed_read, template_read}
 use Rattle.listener_check.specs.Terms.{Reading, Part, not_codes, each_step, each, behind_step, each_behind, followed_behind, followed_read, joined_behind, or_read, xor_read, may_begin, and_read, not_read, all_read, deadline_read, plain, negated, wait_read, ended_read, group_read, leaf_template_read, node_step, expr_step, part_of}
-use Rattle.listener_check.specs.Went.{behind, through, ◌>>=◌}
-use Rattle.stmt_check.specs.Captures.{event_node, event_step, constraint_names, constraint_node, range_names, clause_names, template_names, limit_names}
-use Rattle.name_resolution.specs.Names.{held}
-use Rattle.name_resolution.specs.Events.{RangeIs, AskIs, field_of, ConstraintsAre, ClausesAre, fields_at, TemplateIs, EventForm, event_form, NodeIs, TermsAre}
+use Rattle.listener_check.specs.Went.{Went, went, behind, through, ◌>>=◌}
+use Rattle.stmt_check.specs.Captures.{Names, either, any_of, event_node, event_step, event_names, constraint_names, constraint_node, range_names, clause_names, template_names, limit_names, duration_names, expr_names}
+use Rattle.type_table.specs.declared.scope.Seen.{Seen}
+use Rattle.type_table.specs.declared.scope.SeenKind.TheVariants as kind
+use Rattle.expr_rules.specs.Names.{seen}
+use Rattle.listener_check.specs.Bound.{is_own, is_among}
+use Rattle.type_table.specs.Table.{seen_of}
+use Rattle.std.proofs.Common.{is_some}
+use Rattle.std.proofs.lemmas.Bool.{or_parts}
+use Rattle.typed_program.specs.declared.statement.Variable.TheVariants as var
+use Rattle.name_resolution.specs.Names.{Meant}
+use Rattle.name_resolution.specs.Events.{BoundAs}
+use Rattle.name_resolution.specs.Agreeing.{meant_by}
+use Rattle.name_resolution.specs.Names.{Named, Around, held, type_named, meaning_of}
+use Rattle.name_resolution.specs.Events.{Inside, DurationIs, OperandIs, RangeIs, AskIs, field_of, ConstraintsAre, ClausesAre, fields_at, TemplateIs, EventForm, event_form, TermIs, NodeIs, TermsAre}
 use Rattle.name_resolution.specs.Events as rule
-use Rattle.name_resolution.proofs.Sure.{no_told}
+use Rattle.name_resolution.proofs.Sure.{no_told, no_both, no_if}
 use Rattle.name_resolution.proofs.Through.{Along, held_all, all_as, append_none, regroup}
 use Rattle.name_resolution.proofs.Thus.{Thus, thus_went, thus_then, thus_behind, thus_weaker}
 use Rattle.name_resolution.proofs.Agreeing.{Agrees, ActionsAgree, agrees_left, agrees_right, agrees_first, agrees_rest, agrees_all}
 use Rattle.name_resolution.proofs.OperandsRead.{Room, Behind, behind_same, within, Stays, stays_then, stays_went, stays_behind, duration_stays, operand_stays}
 
-module _ (around : Around) (names : List Named) (table : Table) (scope inner : Scope) (types : table.types ≡ around.types) (acts : ActionsAgree table inner around.actions around.first) where
+module _ (around : Around) (names bound : List Named) (listed : List (List ℕ)) (table : Table) (scope inner : Scope) (types : table.types ≡ around.types) (acts : ActionsAgree table inner around.actions around.first) (owned : (name : List ℕ) (s : Seen) → is_own scope inner name ≡ true → seen inner name ≡ Some s → (meaning_of bound name ≡ Some (meant_by s)) × (s.kind ≡ kind.Bound)) (placed_name : (before : List (List ℕ)) (name : List ℕ) (more : List (List ℕ)) → listed ≡ (before ++ name ∷ []) ++ more → is_among before name ≡ false → (m : Meant) × (meaning_of bound name ≡ Some m) × (m.variable ≡ var.Local (short (length before)))) where
   abbrev S : {A : Type 0} → (Inside → A → Type 0) → Sofar → A → Sofar → Type 0
-  S P s x t = Stays around names P s x t
+  S P s x t = Stays around names bound listed P s x t
 
   abbrev Known : Names → Type 0
   Known named = Agrees names inner named
 
   -- what is made of what was read
-  last : {A : Type 0} (P : Inside → A → Type 0) (x : A) (s : Sofar) → Room s → ((operands : List _) → P (within around names operands) x) → Thus (S P s) (went x s)
-  last P x s room h = thus_went (S P s) x s (record { behind = behind_same s s refl room; good = λ operands ends. h operands })
+  last : {A : Type 0} (P : Inside → A → Type 0) (x : A) (s : Sofar) → Room s → ((operands : List _) → P (within around names bound listed operands) x) → Thus (S P s) (went x s)
+  last P x s room h = thus_went (S P s) x s (record { behind = behind_same s s refl refl room; good = λ operands ends. h operands })
 
   -- ---- constraints
 
   compares_stays : (P : Inside → TypedNode → Type 0) (left : List (List ℕ)) (s : Shape) (c : Comparison) (e : Expr) (t : Sofar) → Known (expr_names e) → Room t → ((i : Inside) (o : Operand) → OperandIs i e o → P i (asked.Compares c o)) → Thus (S P t) (compares_read table scope inner left s c e t)
   unfolding compares_read
   compares_stays P left s c e t known room h =
-      stays_then around names (λ i o. OperandIs i e o) P (operand_read table scope inner left s e t) (λ o u. went (asked.Compares c o) u) t (operand_stays around names table scope inner types acts left s e t known room)
-      (λ o u r. last (λ i y. OperandIs i e o → P i y) (asked.Compares c o) u r (λ operands p. h (within around names operands) o p))
+      stays_then around names bound listed (λ i o. OperandIs i e o) P (operand_read table scope inner left s e t) (λ o u. went (asked.Compares c o) u) t (operand_stays around names bound listed table scope inner types acts owned left s e t known room)
+      (λ o u r. last (λ i y. OperandIs i e o → P i y) (asked.Compares c o) u r (λ operands p. h (within around names bound listed operands) o p))
 
   lies_stays : (P : Inside → TypedNode → Type 0) (left : List (List ℕ)) (s : Shape) (r : Range) (t : Sofar) → Known (range_names r) → Room t → ((i : Inside) (low high : Operand) → OperandIs i r.low.bound low → OperandIs i r.high.bound high → P i (lies table scope inner left r low high)) → Thus (S P t) (lies_read table scope inner left s r t)
   unfolding lies_read
   lies_stays P left s r t known room h =
-      stays_then around names (λ i o. OperandIs i r.low.bound o) P (operand_read table scope inner left s r.low.bound t) (λ low u. operand_read table scope inner left s r.high.bound u >>= λ high v. went (lies table scope inner left r low high) v) t
-      (operand_stays around names table scope inner types acts left s r.low.bound t (agrees_left names inner (expr_names r.low.bound) (expr_names r.high.bound) known) room)
-      (λ low u room'. stays_then around names (λ i o. OperandIs i r.high.bound o) (λ i y. OperandIs i r.low.bound low → P i y) (operand_read table scope inner left s r.high.bound u) (λ high v. went (lies table scope inner left r low high) v) u
-      (operand_stays around names table scope inner types acts left s r.high.bound u (agrees_right names inner (expr_names r.low.bound) (expr_names r.high.bound) known) room')
-      (λ high v room''. last (λ i y. OperandIs i r.high.bound high → OperandIs i r.low.bound low → P i y) (lies table scope inner left r low high) v room'' (λ operands q p. h (within around names operands) low high p q)))
+      stays_then around names bound listed (λ i o. OperandIs i r.low.bound o) P (operand_read table scope inner left s r.low.bound t) (λ low u. operand_read table scope inner left s r.high.bound u >>= λ high v. went (lies table scope inner left r low high) v) t
+      (operand_stays around names bound listed table scope inner types acts owned left s r.low.bound t (agrees_left names inner (expr_names r.low.bound) (expr_names r.high.bound) known) room)
+      (λ low u room'. stays_then around names bound listed (λ i o. OperandIs i r.high.bound o) (λ i y. OperandIs i r.low.bound low → P i y) (operand_read table scope inner left s r.high.bound u) (λ high v. went (lies table scope inner left r low high) v) u
+      (operand_stays around names bound listed table scope inner types acts owned left s r.high.bound u (agrees_right names inner (expr_names r.low.bound) (expr_names r.high.bound) known) room')
+      (λ high v room''. last (λ i y. OperandIs i r.high.bound high → OperandIs i r.low.bound low → P i y) (lies table scope inner left r low high) v room'' (λ operands q p. h (within around names bound listed operands) low high p q)))
 
   range_is : (i : Inside) (left : List (List ℕ)) (r : Range) (low high : Operand) → OperandIs i r.low.bound low → OperandIs i r.high.bound high → RangeIs i r (record { low = record { closed = r.low.closed; bound = low }; high = record { closed = r.high.closed; bound = high } })
   range_is i left r low high p q = record { low_closed = refl; low = p; high_closed = refl; high = q }
@@ -88,12 +115,12 @@ module _ (around : Around) (names : List Named) (table : Table) (scope inner : S
   placed_stays : (fields : List Field) (place : ℕ) (left : List (List ℕ)) (number : ℕ) (s : Shape) (done : List Typed) (named : Bool) (c : Constraint) (t : Sofar) → field_of fields place c.node ≡ Some number → Known (constraint_names c) → Room t → Thus (S (ConstraintIs fields place c) t) (placed_read table scope inner left number s done named c t)
   unfolding placed_read
   placed_stays fields place left number s done named c t is known room =
-      stays_behind around names (ConstraintIs fields place c) c.spot (field_codes number s done named c.node) (asked_read table scope inner left s c.node t >>= λ n u. went (record { field = short number; node = n }) u) t (λ none.
-      stays_then around names (λ i y. AskIs i c.node y) (ConstraintIs fields place c) (asked_read table scope inner left s c.node t) (λ n u. went (record { field = short number; node = n }) u) t (ask_stays left s c.node t known room)
+      stays_behind around names bound listed (ConstraintIs fields place c) c.spot (field_codes number s done named c.node) (asked_read table scope inner left s c.node t >>= λ n u. went (record { field = short number; node = n }) u) t (λ none.
+      stays_then around names bound listed (λ i y. AskIs i c.node y) (ConstraintIs fields place c) (asked_read table scope inner left s c.node t) (λ n u. went (record { field = short number; node = n }) u) t (ask_stays left s c.node t known room)
       (λ n u r. last (λ i y. AskIs i c.node n → ConstraintIs fields place c i y) (record { field = short number; node = n }) u r (λ operands p. record { number = number; is_field = is; held_so = refl; ask = p })))
 
   missing_stays : (P : Inside → Typed → Type 0) (left : List (List ℕ)) (c : Constraint) (t : Sofar) → Thus (S P t) (missing_read table scope inner left c t)
-  missing_stays P left c t = stays_behind around names P c.spot (missing_code c.node ∷ []) (went (record { field = 0; node = asked.Any }) t) t (λ none. absurd (cc))
+  missing_stays P left c t = stays_behind around names bound listed P c.spot (missing_code c.node ∷ []) (went (record { field = 0; node = asked.Any }) t) t (λ none. absurd (cc))
 
   found_stays : (fields : List Field) (place : ℕ) (left : List (List ℕ)) (number : ℕ) (f : Option Field) (done : List Typed) (named : Bool) (c : Constraint) (t : Sofar) → field_of fields place c.node ≡ Some number → Known (constraint_names c) → Room t → Thus (S (ConstraintIs fields place c) t) (found_read table scope inner left number f done named c t)
   found_stays fields place left number (Some f) done named c t is known room = placed_stays fields place left number f.shape done named c t is known room
@@ -124,12 +151,12 @@ module _ (around : Around) (names : List Named) (table : Table) (scope inner : S
   unfolding through
   constraints_stay left fields [] d t known room = last (Adds fields d.constraints []) d t room (λ operands. record { found = []; are = sym (append_none d.constraints); good = rule.no_constraints })
   constraints_stay left fields (c ∷ cs) d t known room =
-      stays_then around names (λ i e. (y : Typed) × (e.constraints ≡ d.constraints ++ y ∷ []) × ConstraintIs fields (length d.constraints) c i y) (Adds fields d.constraints (c ∷ cs)) (constraint_step table scope inner left fields d c t) (λ e u. through (constraint_step table scope inner left fields) e cs u) t
-      (stays_then around names (ConstraintIs fields (length d.constraints) c) (λ i e. (y : Typed) × (e.constraints ≡ d.constraints ++ y ∷ []) × ConstraintIs fields (length d.constraints) c i y) (constraint_read table scope inner left fields d.constraints d.named c t) (λ y u. went (record { constraints = d.constraints ++ y ∷ []; named = d.named || is_named c.node }) u) t
+      stays_then around names bound listed (λ i e. (y : Typed) × (e.constraints ≡ d.constraints ++ y ∷ []) × ConstraintIs fields (length d.constraints) c i y) (Adds fields d.constraints (c ∷ cs)) (constraint_step table scope inner left fields d c t) (λ e u. through (constraint_step table scope inner left fields) e cs u) t
+      (stays_then around names bound listed (ConstraintIs fields (length d.constraints) c) (λ i e. (y : Typed) × (e.constraints ≡ d.constraints ++ y ∷ []) × ConstraintIs fields (length d.constraints) c i y) (constraint_read table scope inner left fields d.constraints d.named c t) (λ y u. went (record { constraints = d.constraints ++ y ∷ []; named = d.named || is_named c.node }) u) t
       (numbered_stays fields (length d.constraints) left (number_of fields (length d.constraints) c.node) d.constraints d.named c t (number_same fields (length d.constraints) c.node) (agrees_first names inner (constraint_names c) (map constraint_names cs) known) room)
       (λ y u r. last (λ i e. ConstraintIs fields (length d.constraints) c i y → (z : Typed) × (e.constraints ≡ d.constraints ++ z ∷ []) × ConstraintIs fields (length d.constraints) c i z) (record { constraints = d.constraints ++ y ∷ []; named = d.named || is_named c.node }) u r (λ operands p. (y, refl, p))))
       (λ e u r. thus_weaker (S (Adds fields e.constraints cs) u) (S (λ i z. ((y : Typed) × (e.constraints ≡ d.constraints ++ y ∷ []) × ConstraintIs fields (length d.constraints) c i y) → Adds fields d.constraints (c ∷ cs) i z) u) (through (constraint_step table scope inner left fields) e cs u) (constraints_stay left fields cs e u (agrees_rest names inner (constraint_names c) (map constraint_names cs) known) r)
-      (λ z v k. record { behind = k.behind; good = λ operands ends p. adds_on fields d.constraints c cs (within around names operands) p.0 z p.2 (subst (λ (ys : List Typed). Adds fields ys cs (within around names operands) z) p.1 (k.good operands ends)) }))
+      (λ z v k. record { behind = k.behind; good = λ operands ends p. adds_on fields d.constraints c cs (within around names bound listed operands) p.0 z p.2 (subst (λ (ys : List Typed). Adds fields ys cs (within around names bound listed operands) z) p.1 (k.good operands ends)) }))
 
   -- ---- templates
 
@@ -140,22 +167,34 @@ module _ (around : Around) (names : List Named) (table : Table) (scope inner : S
   abbrev Onward : Clauses → TemplateClause → Inside → Clauses → Type 0
   Onward a c i b = (cs : List TemplateClause) (z : Clauses) → Clauses2 b cs i z → Clauses2 a (c ∷ cs) i z
 
+  untaken : (under : Bool) (binds : Option ℕ) (ns : List (List ℕ)) (name : List ℕ) → name_codes scope under binds ns name ≡ [] → is_among ns name ≡ false
+  untaken under binds ns name none =
+      let one = no_both ((if is_taken scope ns name then 1 ∷ [] else []) ++ (if under then 19 ∷ [] else [])) (if is_full binds ns then 4 ∷ [] else []) none in
+      let two = no_both (if is_taken scope ns name then 1 ∷ [] else []) (if under then 19 ∷ [] else []) one.0 in
+      (or_parts (is_some (seen_of scope name)) (is_among ns name) (no_if (is_taken scope ns name) 1 two.0)).1
+
   clause_stays : (under : Bool) (a : Clauses) (c : TemplateClause) (t : Sofar) → Known (clause_names c) → Room t → Thus (S (Onward a c) t) (clause_read table scope inner under a c t)
   unfolding clause_read name_read
   clause_stays under a (clause.As name) t known room =
-      stays_then around names (λ i place. Unit {0}) (Onward a (clause.As name)) (name_read scope under a.binds name t) (λ place u. went (record a { binds = Some place }) u) t
-      (stays_behind around names (λ i place. Unit {0}) name.spot (name_codes scope under a.binds t.names name.text) (went (short (length t.names)) (with_name name.text t)) t (λ none. thus_went (S (λ i place. Unit {0}) t) (short (length t.names)) (with_name name.text t) (record { behind = behind_same t (with_name name.text t) refl (record { few = room.few; limit = room.limit }); good = λ operands ends. tt })))
-      (λ place u r. last (λ i b. Unit {0} → Onward a (clause.As name) i b) (record a { binds = Some place }) u r (λ operands p cs z h. rule.as_name h))
+      stays_then around names bound listed (λ i place. (o : Option Shape) × BoundAs i name.text place o) (Onward a (clause.As name)) (name_read scope under a.binds name t) (λ place u. went (record a { binds = Some place }) u) t
+      (stays_behind around names bound listed (λ i place. (o : Option Shape) × BoundAs i name.text place o) name.spot (name_codes scope under a.binds t.names name.text) (went (short (length t.names)) (with_name name.text t)) t (λ none.
+      thus_went (S (λ i place. (o : Option Shape) × BoundAs i name.text place o) t) (short (length t.names)) (with_name name.text t) (record {
+        behind = record { room = record { few = room.few; limit = room.limit }; ends = record { more = []; are = sym (append_none t.operands); more_names = name.text ∷ []; names_are = refl } };
+        good = λ operands ends.
+            let m = placed_name t.names name.text ends.more_names ends.names_are (untaken under a.binds t.names name.text none) in
+            (m.0.shape, record { meant = m.0; there = m.1; variable_is = m.2; shape_is = refl });
+      })))
+      (λ place u r. last (λ i b. ((o : Option Shape) × BoundAs i name.text place o) → Onward a (clause.As name) i b) (record a { binds = Some place }) u r (λ operands p cs z h. rule.as_name p.1 h))
   clause_stays under a (clause.Within d) t known room =
-      stays_then around names (λ i at. DurationIs i d.node at) (Onward a (clause.Within d)) (duration_read table scope inner d t) (λ at u. went (record a { within = Some at }) u) t
-      (duration_stays around names table scope inner types acts d t known room)
+      stays_then around names bound listed (λ i at. DurationIs i d.node at) (Onward a (clause.Within d)) (duration_read table scope inner d t) (λ at u. went (record a { within = Some at }) u) t
+      (duration_stays around names bound listed table scope inner types acts owned d t known room)
       (λ at u r. last (λ i b. DurationIs i d.node at → Onward a (clause.Within d) i b) (record a { within = Some at }) u r (λ operands p cs z h. rule.in_time p h))
 
   clauses_stay : (under : Bool) (cs : List TemplateClause) (a : Clauses) (t : Sofar) → Known (any_of (map clause_names cs)) → Room t → Thus (S (Clauses2 a cs) t) (through (clause_read table scope inner under) a cs t)
   unfolding through
   clauses_stay under [] a t known room = last (Clauses2 a []) a t room (λ operands. rule.no_clauses)
   clauses_stay under (c ∷ cs) a t known room =
-      stays_then around names (Onward a c) (Clauses2 a (c ∷ cs)) (clause_read table scope inner under a c t) (λ b u. through (clause_read table scope inner under) b cs u) t
+      stays_then around names bound listed (Onward a c) (Clauses2 a (c ∷ cs)) (clause_read table scope inner under a c t) (λ b u. through (clause_read table scope inner under) b cs u) t
       (clause_stays under a c t (agrees_first names inner (clause_names c) (map clause_names cs) known) room)
       (λ b u r. thus_weaker (S (Clauses2 b cs) u) (S (λ i z. Onward a c i b → Clauses2 a (c ∷ cs) i z) u) (through (clause_read table scope inner under) b cs u) (clauses_stay under cs b u (agrees_rest names inner (clause_names c) (map clause_names cs) known) r)
       (λ z v k. record { behind = k.behind; good = λ operands ends p. p cs z (k.good operands ends) }))
@@ -164,8 +203,8 @@ module _ (around : Around) (names : List Named) (table : Table) (scope inner : S
   leaf_then : {A : Type 0} (P : Inside → A → Type 0) (spot : Spot) (n : Unit {0} → Sofar → Went A) (t : Sofar) → Room t → ((u : Sofar) → Room u → Thus (S P u) (n tt u)) → Thus (S P t) (leaf_read spot t >>= n)
   unfolding leaf_read
   leaf_then P spot n t room next =
-      stays_then around names (λ i x. Unit {0}) P (behind (told spot (leaf_codes t)) (went tt (with_leaf t))) n t
-      (stays_behind around names (λ i x. Unit {0}) spot (leaf_codes t) (went tt (with_leaf t)) t (λ none. thus_went (S (λ i x. Unit {0}) t) tt (with_leaf t) (record { behind = behind_same t (with_leaf t) refl (record { few = room.few; limit = room.limit }); good = λ operands ends. tt })))
+      stays_then around names bound listed (λ i x. Unit {0}) P (behind (told spot (leaf_codes t)) (went tt (with_leaf t))) n t
+      (stays_behind around names bound listed (λ i x. Unit {0}) spot (leaf_codes t) (went tt (with_leaf t)) t (λ none. thus_went (S (λ i x. Unit {0}) t) tt (with_leaf t) (record { behind = behind_same t (with_leaf t) refl refl (record { few = room.few; limit = room.limit }); good = λ operands ends. tt })))
       (λ x u r. thus_weaker (S P u) (S (λ i y. Unit {0} → P i y) u) (n x u) (next u r) (λ y v k. record { behind = k.behind; good = λ operands ends p. k.good operands ends }))
 
   fields_same : (o : Option EventShape) → fields_of o ≡ fields_at o
@@ -193,12 +232,12 @@ module _ (around : Around) (names : List Named) (table : Table) (scope inner : S
   typed_stays (Some n) spot under left t s is known room =
       let fields = fields_of (slice_get table.types n) in
       leaf_then (TemplateOf t) spot (λ x u. parts_read table scope inner fields (short n) under left t u) s room (λ u r.
-      stays_then around names (Adds fields [] t.constraints) (TemplateOf t) (constraints_read table scope inner left fields t.constraints u) (λ d v. clauses_read table scope inner under t.clauses v >>= λ c w. went (template_of table scope inner (short n) t d.constraints c) w) u
+      stays_then around names bound listed (Adds fields [] t.constraints) (TemplateOf t) (constraints_read table scope inner left fields t.constraints u) (λ d v. clauses_read table scope inner under t.clauses v >>= λ c w. went (template_of table scope inner (short n) t d.constraints c) w) u
       (constraints_stay left fields t.constraints none_done u (agrees_left names inner (any_of (map constraint_names t.constraints)) (any_of (map clause_names t.clauses)) known) r)
-      (λ d v r'. stays_then around names (Clauses2 no_clauses t.clauses) (λ i x. Adds fields [] t.constraints i d → TemplateOf t i x) (clauses_read table scope inner under t.clauses v) (λ c w. went (template_of table scope inner (short n) t d.constraints c) w) v
+      (λ d v r'. stays_then around names bound listed (Clauses2 no_clauses t.clauses) (λ i x. Adds fields [] t.constraints i d → TemplateOf t i x) (clauses_read table scope inner under t.clauses v) (λ c w. went (template_of table scope inner (short n) t d.constraints c) w) v
       (clauses_stay under t.clauses no_clauses v (agrees_right names inner (any_of (map constraint_names t.constraints)) (any_of (map clause_names t.clauses)) known) r')
-      (λ c w r''. last (λ i x. Clauses2 no_clauses t.clauses i c → Adds fields [] t.constraints i d → TemplateOf t i x) (template_of table scope inner (short n) t d.constraints c) w r'' (λ operands k a. template_made t n (within around names operands) d c refl is a k))))
-  typed_stays None spot under left t s is known room = stays_behind around names (TemplateOf t) spot (2 ∷ []) (went (template_of table scope inner 0 t [] no_clauses) s) s (λ none. absurd (cc))
+      (λ c w r''. last (λ i x. Clauses2 no_clauses t.clauses i c → Adds fields [] t.constraints i d → TemplateOf t i x) (template_of table scope inner (short n) t d.constraints c) w r'' (λ operands k a. template_made t n (within around names bound listed operands) d c refl is a k))))
+  typed_stays None spot under left t s is known room = stays_behind around names bound listed (TemplateOf t) spot (2 ∷ []) (went (template_of table scope inner 0 t [] no_clauses) s) s (λ none. absurd (cc))
 
   -- ---- parts in order
 
@@ -220,7 +259,7 @@ module _ (around : Around) (names : List Named) (table : Table) (scope inner : S
   unfolding through
   through_stays step part [] all done s room = last (AddsTo [] done) done s room (λ operands. record { found = []; are = sym (append_none done); good = rule.no_terms })
   through_stays step part (e ∷ es) all done s room =
-      stays_then around names (OneTo e done) (AddsTo (e ∷ es) done) (step done (part e) s) (λ ts t. through step ts (map part es) t) s (all.0 done s room)
+      stays_then around names bound listed (OneTo e done) (AddsTo (e ∷ es) done) (step done (part e) s) (λ ts t. through step ts (map part es) t) s (all.0 done s room)
       (λ ts t r. thus_weaker (S (AddsTo es ts) t) (S (λ i us. OneTo e done i ts → AddsTo (e ∷ es) done i us) t) (through step ts (map part es) t) (through_stays step part es all.1 ts t r)
       (λ us u k. record {
         behind = k.behind;
@@ -256,7 +295,7 @@ module _ (around : Around) (names : List Named) (table : Table) (scope inner : S
 
   step_by : (e : EventExpr) → ForExpr e → Known (event_names e) → (may under : Bool) (left : List (List ℕ)) (done : List Term) (s : Sofar) → Room s → Thus (S (OneTo e done) s) (each_step may under left done (part_of table scope inner e) s)
   step_by e p known may under left done s room =
-      stays_then around names (TermOf e) (OneTo e done) ((part_of table scope inner e).reading may under left s) (λ t u. went (done ++ t ∷ []) u) s (term_stays e p known may under left s room)
+      stays_then around names bound listed (TermOf e) (OneTo e done) ((part_of table scope inner e).reading may under left s) (λ t u. went (done ++ t ∷ []) u) s (term_stays e p known may under left s room)
       (λ t u r. last (λ i ts. TermOf e i t → OneTo e done i ts) (done ++ t ∷ []) u r (λ operands h. record { item = t; are = refl; good = h }))
 
   each_known : (ys : List X) → Known (naming ys) → AllByRecursion (λ e. ForExpr e × Known (event_names e)) (exprs ys)
@@ -283,9 +322,9 @@ module _ (around : Around) (names : List Named) (table : Table) (scope inner : S
   chain_stays : (make : Term → List Term → Term) (f : EventForm) (first : X) (ys : List X) → Builds make f first.0 (exprs ys) → (rest : Term → Sofar → Sofar → Went (List Term)) → ((head : Term) (s t : Sofar) → Room t → Thus (S (AddsTo (exprs ys) []) t) (rest head s t))
       → (may under : Bool) (left : List (List ℕ)) (s : Sofar) → Known (event_names first.0) → Room s → Thus (S (Made f) s) ((part_of table scope inner first.0).reading may under left s >>= λ head t. rest head s t >>= λ tail u. went (make head tail) u)
   chain_stays make f first ys build rest reads may under left s known room =
-      stays_then around names (TermOf first.0) (Made f) ((part_of table scope inner first.0).reading may under left s) (λ head t. rest head s t >>= λ tail u. went (make head tail) u) s (term_stays first.0 first.1 known may under left s room)
-      (λ head t r. stays_then around names (AddsTo (exprs ys) []) (λ i x. TermOf first.0 i head → Made f i x) (rest head s t) (λ tail u. went (make head tail) u) t (reads head s t r)
-      (λ tail u r'. last (λ i x. AddsTo (exprs ys) [] i tail → TermOf first.0 i head → Made f i x) (make head tail) u r' (λ operands a h. subst (λ (ts : List Term). Made f (within around names operands) (make head ts)) (sym a.are) (build (within around names operands) head a.found h a.good))))
+      stays_then around names bound listed (TermOf first.0) (Made f) ((part_of table scope inner first.0).reading may under left s) (λ head t. rest head s t >>= λ tail u. went (make head tail) u) s (term_stays first.0 first.1 known may under left s room)
+      (λ head t r. stays_then around names bound listed (AddsTo (exprs ys) []) (λ i x. TermOf first.0 i head → Made f i x) (rest head s t) (λ tail u. went (make head tail) u) t (reads head s t r)
+      (λ tail u r'. last (λ i x. AddsTo (exprs ys) [] i tail → TermOf first.0 i head → Made f i x) (make head tail) u r' (λ operands a h. subst (λ (ts : List Term). Made f (within around names bound listed operands) (make head ts)) (sym a.are) (build (within around names bound listed operands) head a.found h a.good))))
 
   known_first : (first : X) (ys : List X) → Known (either (event_names first.0) (naming ys)) → Known (event_names first.0)
   known_first first ys known = agrees_left names inner (event_names first.0) (naming ys) known
@@ -326,35 +365,35 @@ module _ (around : Around) (names : List Named) (table : Table) (scope inner : S
   all_stays : (x : X) → PartStays (event_names x.0) (event.All x.0) (plain (all_read (part_of table scope inner x.0)))
   unfolding all_read
   all_stays x = record {
-    reads = λ known may under left s room. stays_then around names (TermOf x.0) (Made (event.All x.0)) ((part_of table scope inner x.0).reading false under left s) (λ t u. went (term.All t) u) s (term_stays x.0 x.1 known false under left s room)
-        (λ t u r. last (λ i y. TermOf x.0 i t → Made (event.All x.0) i y) (term.All t) u r (λ operands h. made (within around names operands) (event.All x.0) (layer.All t) (term.All t) (term.outs-All t) (rule.all h)));
+    reads = λ known may under left s room. stays_then around names bound listed (TermOf x.0) (Made (event.All x.0)) ((part_of table scope inner x.0).reading false under left s) (λ t u. went (term.All t) u) s (term_stays x.0 x.1 known false under left s room)
+        (λ t u r. last (λ i y. TermOf x.0 i t → Made (event.All x.0) i y) (term.All t) u r (λ operands h. made (within around names bound listed operands) (event.All x.0) (layer.All t) (term.All t) (term.outs-All t) (rule.all h)));
   }
 
   not_stays : (spot : Spot) (x : X) → PartStays (event_names x.0) (event.Not x.0) (negated spot (part_of table scope inner x.0))
   unfolding not_read
   not_stays spot x = record {
-    reads = λ known may under left s room. stays_behind around names (Made (event.Not x.0)) spot (not_codes may) ((part_of table scope inner x.0).reading false true left s >>= λ t u. went (term.Not t) u) s (λ none.
-        stays_then around names (TermOf x.0) (Made (event.Not x.0)) ((part_of table scope inner x.0).reading false true left s) (λ t u. went (term.Not t) u) s (term_stays x.0 x.1 known false true left s room)
-        (λ t u r. last (λ i y. TermOf x.0 i t → Made (event.Not x.0) i y) (term.Not t) u r (λ operands h. made (within around names operands) (event.Not x.0) (layer.Not t) (term.Not t) (term.outs-Not t) (rule.negation h))));
+    reads = λ known may under left s room. stays_behind around names bound listed (Made (event.Not x.0)) spot (not_codes may) ((part_of table scope inner x.0).reading false true left s >>= λ t u. went (term.Not t) u) s (λ none.
+        stays_then around names bound listed (TermOf x.0) (Made (event.Not x.0)) ((part_of table scope inner x.0).reading false true left s) (λ t u. went (term.Not t) u) s (term_stays x.0 x.1 known false true left s room)
+        (λ t u r. last (λ i y. TermOf x.0 i t → Made (event.Not x.0) i y) (term.Not t) u r (λ operands h. made (within around names bound listed operands) (event.Not x.0) (layer.Not t) (term.Not t) (term.outs-Not t) (rule.negation h))));
   }
 
   ended_stays : (e : EventExpr) (t : Term) (limit : Option Duration) (s : Sofar) → Known (limit_names limit) → Room s → Thus (S (λ i y. TermOf e i t → Made (event.Group e limit) i y) s) (ended_read table scope inner t limit s)
   unfolding ended_read
-  ended_stays e t None s known room = last (λ i y. TermOf e i t → Made (event.Group e None) i y) (term.Group t None) s room (λ operands h. made (within around names operands) (event.Group e None) (layer.Group t None) (term.Group t None) (term.outs-Group t None) (rule.group h))
+  ended_stays e t None s known room = last (λ i y. TermOf e i t → Made (event.Group e None) i y) (term.Group t None) s room (λ operands h. made (within around names bound listed operands) (event.Group e None) (layer.Group t None) (term.Group t None) (term.outs-Group t None) (rule.group h))
   ended_stays e t (Some d) s known room =
-      stays_then around names (λ i at. DurationIs i d.node at) (λ i y. TermOf e i t → Made (event.Group e (Some d)) i y) (duration_read table scope inner d s) (λ at u. went (term.Group t (Some at)) u) s (duration_stays around names table scope inner types acts d s known room)
-      (λ at u r. last (λ i y. DurationIs i d.node at → TermOf e i t → Made (event.Group e (Some d)) i y) (term.Group t (Some at)) u r (λ operands h k. made (within around names operands) (event.Group e (Some d)) (layer.Group t (Some at)) (term.Group t (Some at)) (term.outs-Group t (Some at)) (rule.timed k h)))
+      stays_then around names bound listed (λ i at. DurationIs i d.node at) (λ i y. TermOf e i t → Made (event.Group e (Some d)) i y) (duration_read table scope inner d s) (λ at u. went (term.Group t (Some at)) u) s (duration_stays around names bound listed table scope inner types acts owned d s known room)
+      (λ at u r. last (λ i y. DurationIs i d.node at → TermOf e i t → Made (event.Group e (Some d)) i y) (term.Group t (Some at)) u r (λ operands h k. made (within around names bound listed operands) (event.Group e (Some d)) (layer.Group t (Some at)) (term.Group t (Some at)) (term.outs-Group t (Some at)) (rule.timed k h)))
 
   deadline_stays : (spot : Spot) (limit : Option Duration) (s : Sofar) → Room s → Thus (S (λ i x. Unit {0}) s) (deadline_read spot limit s)
   unfolding deadline_read leaf_read
-  deadline_stays spot (Some d) s room = stays_behind around names (λ i x. Unit {0}) spot (leaf_codes s) (went tt (with_leaf s)) s (λ none. thus_went (S (λ i x. Unit {0}) s) tt (with_leaf s) (record { behind = behind_same s (with_leaf s) refl (record { few = room.few; limit = room.limit }); good = λ operands ends. tt }))
+  deadline_stays spot (Some d) s room = stays_behind around names bound listed (λ i x. Unit {0}) spot (leaf_codes s) (went tt (with_leaf s)) s (λ none. thus_went (S (λ i x. Unit {0}) s) tt (with_leaf s) (record { behind = behind_same s (with_leaf s) refl refl (record { few = room.few; limit = room.limit }); good = λ operands ends. tt }))
   deadline_stays spot None s room = last (λ i x. Unit {0}) tt s room (λ operands. tt)
 
   group_stays : (spot : Spot) (x : X) (limit : Option Duration) → PartStays (either (event_names x.0) (limit_names limit)) (event.Group x.0 limit) (plain (group_read table scope inner spot (part_of table scope inner x.0) limit))
   unfolding group_read
   group_stays spot x limit = record {
-    reads = λ known may under left s room. stays_then around names (λ i u. Unit {0}) (Made (event.Group x.0 limit)) (deadline_read spot limit s) (λ u t. (part_of table scope inner x.0).reading false under left t >>= λ y v. ended_read table scope inner y limit v) s (deadline_stays spot limit s room)
-        (λ u t r. stays_then around names (TermOf x.0) (λ i y. Unit {0} → Made (event.Group x.0 limit) i y) ((part_of table scope inner x.0).reading false under left t) (λ y v. ended_read table scope inner y limit v) t (term_stays x.0 x.1 (agrees_left names inner (event_names x.0) (limit_names limit) known) false under left t r)
+    reads = λ known may under left s room. stays_then around names bound listed (λ i u. Unit {0}) (Made (event.Group x.0 limit)) (deadline_read spot limit s) (λ u t. (part_of table scope inner x.0).reading false under left t >>= λ y v. ended_read table scope inner y limit v) s (deadline_stays spot limit s room)
+        (λ u t r. stays_then around names bound listed (TermOf x.0) (λ i y. Unit {0} → Made (event.Group x.0 limit) i y) ((part_of table scope inner x.0).reading false under left t) (λ y v. ended_read table scope inner y limit v) t (term_stays x.0 x.1 (agrees_left names inner (event_names x.0) (limit_names limit) known) false under left t r)
         (λ y v r'. thus_weaker (S (λ i z. TermOf x.0 i y → Made (event.Group x.0 limit) i z) v) (S (λ i z. TermOf x.0 i y → Unit {0} → Made (event.Group x.0 limit) i z) v) (ended_read table scope inner y limit v) (ended_stays x.0 y limit v (agrees_right names inner (event_names x.0) (limit_names limit) known) r') (λ z w k. record { behind = k.behind; good = λ operands ends h n. k.good operands ends h })));
   }
 
@@ -362,15 +401,15 @@ module _ (around : Around) (names : List Named) (table : Table) (scope inner : S
   unfolding wait_read
   wait_stays spot d = record {
     reads = λ known may under left s room. leaf_then (Made (event.Wait d)) spot (λ x u. duration_read table scope inner d u >>= λ at v. went (term.Wait at) v) s room (λ u r.
-        stays_then around names (λ i at. DurationIs i d.node at) (Made (event.Wait d)) (duration_read table scope inner d u) (λ at v. went (term.Wait at) v) u (duration_stays around names table scope inner types acts d u known r)
-        (λ at v r'. last (λ i y. DurationIs i d.node at → Made (event.Wait d) i y) (term.Wait at) v r' (λ operands h. made (within around names operands) (event.Wait d) (layer.Wait at) (term.Wait at) (term.outs-Wait at) (rule.wait h))));
+        stays_then around names bound listed (λ i at. DurationIs i d.node at) (Made (event.Wait d)) (duration_read table scope inner d u) (λ at v. went (term.Wait at) v) u (duration_stays around names bound listed table scope inner types acts owned d u known r)
+        (λ at v r'. last (λ i y. DurationIs i d.node at → Made (event.Wait d) i y) (term.Wait at) v r' (λ operands h. made (within around names bound listed operands) (event.Wait d) (layer.Wait at) (term.Wait at) (term.outs-Wait at) (rule.wait h))));
   }
 
   template_stays : (spot : Spot) (t : Template) → PartStays (template_names t) (event.Template t) (plain (λ under left s. leaf_template_read table scope inner spot under left t s))
   unfolding leaf_template_read
   template_stays spot t = record {
-    reads = λ known may under left s room. stays_then around names (TemplateOf t) (Made (event.Template t)) (template_read table scope inner spot under left t s) (λ x u. went (term.Template x) u) s (typed_stays (event_of table t.event) spot under left t s refl known room)
-        (λ x u r. last (λ i y. TemplateOf t i x → Made (event.Template t) i y) (term.Template x) u r (λ operands h. made (within around names operands) (event.Template t) (layer.Template x) (term.Template x) (term.outs-Template x) (rule.template h)));
+    reads = λ known may under left s room. stays_then around names bound listed (TemplateOf t) (Made (event.Template t)) (template_read table scope inner spot under left t s) (λ x u. went (term.Template x) u) s (typed_stays (event_of table t.event) spot under left t s refl known room)
+        (λ x u r. last (λ i y. TemplateOf t i x → Made (event.Template t) i y) (term.Template x) u r (λ operands h. made (within around names bound listed operands) (event.Template t) (layer.Template x) (term.Template x) (term.outs-Template x) (rule.template h)));
   }
 
   -- ---- every event expression

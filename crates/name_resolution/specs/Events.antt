@@ -34,11 +34,12 @@ use Rattle.typed_program.specs.declared.term.Term.TheOpen as term
 use Rattle.name_resolution.specs.Names.{Named, Meant, Around, held, meaning_of, type_named, field_named}
 use Rattle.name_resolution.specs.Expressions.{form_of, step_of, typed_form, number, ExprIs}
 
--- what surrounds a part of an event expression: the names around the whole and behind them those that it binds, and what is
--- evaluated at the `on`. That an operand names none of the bound ones (code 18) isn't said here
+-- what surrounds a part of an event expression: the names around the whole and behind them those that it binds; these alone, each by
+-- its place; and what is evaluated at the `on`. That such a value names none of the bound ones (code 18) isn't said here
 pub record Inside : Type 0 where
   pub around : Around
   pub names : List Named
+  pub bound : List Named
   pub operands : List TypedExpr
 
 -- an expression that is evaluated at the `on`, by its place
@@ -65,12 +66,29 @@ pub data DurationIs (i : Inside) : DurationNode → ℕ → Type 0 where
 
 -- ---- operands
 
--- an operand that is evaluated at the `on`, or one from a bound name: of that the sign is said here
+-- a name that the event expression binds, by its place
+pub record BoundAs (i : Inside) (name : List ℕ) (place : ℕ) (s : Option Shape) : Type 0 where
+  pub meant : Meant
+  pub there : meaning_of i.bound name ≡ Some meant
+  pub variable_is : meant.variable ≡ variable.Local place
+  pub shape_is : meant.shape ≡ s
+
+-- fields from a shape on, by their numbers; from none nothing is said
+pub data FieldsAre (types : List EventShape) : Option Shape → List Suffix → List ℕ → Type 0 where
+  no_fields : {s : Option Shape} → FieldsAre types s [] []
+  a_field : {s : Shape} {t n : ℕ} {event : EventShape} {name : List ℕ} {f : Field} {u : Suffix} {us : List Suffix} {ns : List ℕ} → step_of u ≡ tree.Field name → out-Shape s ≡ shape.Event t → slice_get types t ≡ Some event → field_named event.fields name ≡ Some n → slice_get event.fields n ≡ Some f → FieldsAre types (Some f.shape) us ns → FieldsAre types (Some s) (u ∷ us) (held n ∷ ns)
+  unshaped : {us : List Suffix} {ns : List ℕ} → FieldsAre types None us ns
+
+-- a path of fields from a bound name
+pub data PathIs (i : Inside) : Expr → ℕ → List ℕ → Type 0 where
+  path : {e first : Expr} {us : List Suffix} {name ns : List ℕ} {place : ℕ} {s : Option Shape} → form_of e ≡ tree.Postfix first us → form_of first ≡ tree.Name name → BoundAs i name place s → FieldsAre i.around.types s us ns → PathIs i e place ns
+
+-- an operand that is evaluated at the `on`, or a path from a bound name, plus or minus such an operand or alone
 pub data OperandIs (i : Inside) : Expr → Operand → Type 0 where
   given : {e : Expr} {at : ℕ} → Given i e at → OperandIs i e (operand.Given at)
-  bound : {e : Expr} {place : ℕ} {ns : List ℕ} → OperandIs i e (operand.Bound place ns)
-  plus : {e first : Expr} {l : Link} {place at : ℕ} {ns : List ℕ} → form_of e ≡ tree.Sum first (l ∷ []) → (out-Link l).operator ≡ operator.Add → OperandIs i e (operand.BoundPlus place ns at)
-  minus : {e first : Expr} {l : Link} {place at : ℕ} {ns : List ℕ} → form_of e ≡ tree.Sum first (l ∷ []) → (out-Link l).operator ≡ operator.Subtract → OperandIs i e (operand.BoundMinus place ns at)
+  bound : {e : Expr} {place : ℕ} {ns : List ℕ} → PathIs i e place ns → OperandIs i e (operand.Bound place ns)
+  plus : {e first : Expr} {l : Link} {place at : ℕ} {ns : List ℕ} → form_of e ≡ tree.Sum first (l ∷ []) → (out-Link l).operator ≡ operator.Add → PathIs i first place ns → Given i (out-Link l).operand at → OperandIs i e (operand.BoundPlus place ns at)
+  minus : {e first : Expr} {l : Link} {place at : ℕ} {ns : List ℕ} → form_of e ≡ tree.Sum first (l ∷ []) → (out-Link l).operator ≡ operator.Subtract → PathIs i first place ns → Given i (out-Link l).operand at → OperandIs i e (operand.BoundMinus place ns at)
 
 -- ---- constraints
 
@@ -105,7 +123,7 @@ pub data ConstraintsAre (i : Inside) (fields : List Field) : ℕ → List Constr
 -- the clauses behind those that gave a name and a duration, and what they give together
 pub data ClausesAre (i : Inside) : Option ℕ → Option ℕ → List TemplateClause → Option ℕ → Option ℕ → Type 0 where
   no_clauses : {binds within : Option ℕ} → ClausesAre i binds within [] binds within
-  as_name : {binds within binds' within' : Option ℕ} {name : Name} {place : ℕ} {cs : List TemplateClause} → ClausesAre i (Some place) within cs binds' within' → ClausesAre i binds within (clause.As name ∷ cs) binds' within'
+  as_name : {binds within binds' within' : Option ℕ} {name : Name} {place : ℕ} {s : Option Shape} {cs : List TemplateClause} → BoundAs i name.text place s → ClausesAre i (Some place) within cs binds' within' → ClausesAre i binds within (clause.As name ∷ cs) binds' within'
   in_time : {binds within binds' within' : Option ℕ} {d : Duration} {at : ℕ} {cs : List TemplateClause} → DurationIs i d.node at → ClausesAre i binds (Some at) cs binds' within' → ClausesAre i binds within (clause.Within d ∷ cs) binds' within'
 
 abbrev pub fields_at : Option EventShape → List Field

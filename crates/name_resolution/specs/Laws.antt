@@ -32,7 +32,7 @@ pub record Fit (around : Around) (monitor callbacks : ℕ) (body : Body) : Type 
 pub record EventResolves (table : Table) (scope : Scope) (around : Around) (names : List Named) (e : EventExpr) : Type 0 where
   pub bound : List Named
   pub bound_are : BoundAre bound (term_found table scope e).part.bound
-  pub resolved : TermIs (record { around = around; names = names ++ bound; operands = (term_found table scope e).part.operands }) e (term_found table scope e).part.term
+  pub resolved : TermIs (record { around = around; names = names ++ bound; bound = bound; operands = (term_found table scope e).part.operands }) e (term_found table scope e).part.term
 
 abbrev pub EventsResolve : Type 0
 EventsResolve = (around : Around) (monitor callbacks : ℕ) (body : Body) → Fit around monitor callbacks body → (scope : Scope) → scope.monitor ≡ monitor → scope.actions ≡ true

@@ -135,5 +135,5 @@ mutual
 
   -- a listener: its site has its event expression and its callback, a body of its own
   pub data ListenIs (around : Around) (sites : List Site) : Here → Listening → ℕ → Type 0 where
-    listen : {h h' : Here} {l : Listening} {n : ℕ} {site : Site} {bound : List Named} {t : Stmt} → slice_get sites n ≡ Some site → BoundAre bound site.bound → TermIs (record { around = around; names = h.names ++ bound; operands = site.operands }) (out-Listening l).event site.term
+    listen : {h h' : Here} {l : Listening} {n : ℕ} {site : Site} {bound : List Named} {t : Stmt} → slice_get sites n ≡ Some site → BoundAre bound site.bound → TermIs (record { around = around; names = h.names ++ bound; bound = bound; operands = site.operands }) (out-Listening l).event site.term
         → StmtIs around sites (callback_start h.names site.captured bound) (out-Listening l).callback t h' → site.body ≡ t ∷ [] → site.locals ≡ h'.locals → ListenIs around sites h l n
