@@ -2,10 +2,9 @@
 #![tactic(auto)]
 
 use outside::{DiskShelf, StreamSink};
-use std::env;
-use std::io;
 use std::io::ErrorKind;
 use std::process::ExitCode;
+use std::{env, io};
 use tall_run::{Call, correlate_tall};
 
 /// The status where the words aren't texts in UTF-8.

@@ -40,8 +40,13 @@ pub fn correlate_call<H: Shelf + Drop, W: Sink + Drop, V: Sink + Drop>(
         mut out,
         mut err,
     } = call;
-    let Outcome { status, kept } =
-        correlate_serial(alloc, words.as_slice(), &mut shelf, &mut out, &mut err);
+    let Outcome { status, kept } = correlate_serial(
+        alloc,
+        words.as_slice(),
+        &mut shelf,
+        &mut out,
+        &mut err,
+    );
     let seen = Snapshot::of(&kept);
     drop(kept);
     Left {
