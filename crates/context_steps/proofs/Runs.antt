@@ -9,7 +9,7 @@ use Rattle.action_host.specs.declared.host.End.TheVariants as end
 use Rattle.action_host.specs.Scenes.{Scene}
 use Rattle.action_host.specs.Told.{Told}
 use Rattle.body_meaning.specs.Acts.{Act, act_of}
-use Rattle.tree_walker.specs.Comes.{Comes}
+use Rattle.body_runs.specs.Comes.{Comes}
 use Rattle.context_meaning.specs.declared.context.Context.{Context}
 use Rattle.context_meaning.specs.declared.context.Instance.{Instance}
 use Rattle.context_meaning.specs.Contexts.{scene_of, is_instance, instance_of, put_globals, apply_all}
