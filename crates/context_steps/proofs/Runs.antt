@@ -6,7 +6,7 @@ use Rattle.action_host.specs.declared.host.End.TheVariants as end
 use Rattle.action_host.specs.Scenes.{Scene}
 use Rattle.action_host.specs.Told.{Told}
 use Rattle.body_meaning.specs.Acts.{act_of}
-use Rattle.tree_walker.specs.Comes.{Comes}
+use Rattle.body_runs.specs.Comes.{Comes}
 use Rattle.context_meaning.specs.Contexts.{scene_of}
 use Rattle.context_meaning.specs.Ends.{ended}
 use Rattle.context_meaning.specs.Fits.{MayRun}

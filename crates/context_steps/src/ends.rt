@@ -8,12 +8,12 @@ ghost use Rattle.context_steps.specs.Steps.{FoundAt, numbered, CanRunIn, Stands,
 
 use crate::effects::{apply_all, quit_all};
 use action_host::{End, Fault};
+use body_runs::BodyRunner;
 use context_meaning::{Context, Instance, Line, Listener};
 use epl_values::{List, Values};
 use plain_host::{Entries, PlainHost};
 use std::alloc::{AllocError, Global};
 use std::mem;
-use tree_walker::run_action;
 use typed_program::Program;
 
 fn first_at(instances: &[Instance], number: u64) -> Option<usize>
@@ -51,7 +51,8 @@ fn host_of(alloc: Global, context: &Context, ending: bool) -> PlainHost
 }
 
 /// Runs a body over the globals of the instance at a place, and puts what it comes to into the context.
-fn run_at(
+fn run_at<R: BodyRunner>(
+    runner: &R,
     alloc: Global,
     program: &Program,
     context: &mut Context,
@@ -61,6 +62,7 @@ fn run_at(
     body: u16,
     locals: Values,
 ) -> Result<End, AllocError>
+    requires serves { R.serves runner.now program.now }
     requires typed { Typed program.now }
     requires place { FoundAt number context.old.instances at }
     requires runs { CanRunIn program.now number body locals context.old }
@@ -74,7 +76,7 @@ fn run_at(
     };
     let mut instance = context.instances.set(at, empty);
     let mut host = host_of(alloc, context, ending);
-    let end = run_action(
+    let end = runner.run_action(
         alloc,
         program,
         body,
@@ -134,13 +136,15 @@ fn ondie_of(program: &Program, monitor: u16) -> Option<u16>
 }
 
 /// Runs `ondie` in the instance with this number, where it is there.
-fn run_ondie(
+fn run_ondie<R: BodyRunner>(
+    runner: &R,
     alloc: Global,
     program: &Program,
     context: &mut Context,
     number: u64,
     body: u16,
 ) -> Result<(), AllocError>
+    requires serves { R.serves runner.now program.now }
     requires typed { Typed program.now }
     requires runs { CanRunIn program.now number body [] context.old }
     requires fuel { IsSmall context.old }
@@ -152,18 +156,22 @@ fn run_ondie(
     };
     let monitor = context.instances.get(at).monitor;
     let locals = List::new(alloc);
-    let end = run_at(alloc, program, context, at, number, true, body, locals)?;
+    let end = run_at(
+        runner, alloc, program, context, at, number, true, body, locals,
+    )?;
     last_run(program, context, monitor, end)
 }
 
 /// The `ondie` of an instance runs, where its monitor has one.
-fn die(
+fn die<R: BodyRunner>(
+    runner: &R,
     alloc: Global,
     program: &Program,
     context: &mut Context,
     number: u64,
     monitor: u16,
 ) -> Result<(), AllocError>
+    requires serves { R.serves runner.now program.now }
     requires typed { Typed program.now }
     requires keeps { Keeps program.now }
     requires stands { Stands program.now number monitor context.old }
@@ -173,7 +181,7 @@ fn die(
 {
     match ondie_of(program, monitor) {
         None => Ok(()),
-        Some(body) => run_ondie(alloc, program, context, number, body),
+        Some(body) => run_ondie(runner, alloc, program, context, number, body),
     }
 }
 
@@ -193,13 +201,15 @@ fn remove(alloc: Global, context: &mut Context, number: u64)
 }
 
 /// An instance ends.
-fn end_instance(
+fn end_instance<R: BodyRunner>(
+    runner: &R,
     alloc: Global,
     program: &Program,
     context: &mut Context,
     number: u64,
     monitor: u16,
 ) -> Result<(), AllocError>
+    requires serves { R.serves runner.now program.now }
     requires typed { Typed program.now }
     requires keeps { Keeps program.now }
     requires stands { Stands program.now number monitor context.old }
@@ -208,7 +218,7 @@ fn end_instance(
     ensures small { OnOk result (IsSmall context.new) }
 {
     quit_all(alloc, context, number);
-    die(alloc, program, context, number, monitor)?;
+    die(runner, alloc, program, context, number, monitor)?;
     if !context.spent {
         remove(alloc, context, number);
     }
@@ -224,13 +234,15 @@ fn is_busy(instance: u64, listeners: &[Listener]) -> bool
 }
 
 /// An instance without a live listener ends.
-fn end_if_idle(
+fn end_if_idle<R: BodyRunner>(
+    runner: &R,
     alloc: Global,
     program: &Program,
     context: &mut Context,
     number: u64,
     monitor: u16,
 ) -> Result<(), AllocError>
+    requires serves { R.serves runner.now program.now }
     requires typed { Typed program.now }
     requires keeps { Keeps program.now }
     requires stands { Stands program.now number monitor context.old }
@@ -241,11 +253,12 @@ fn end_if_idle(
     if is_busy(number, context.listeners.as_slice()) {
         return Ok(());
     }
-    end_instance(alloc, program, context, number, monitor)
+    end_instance(runner, alloc, program, context, number, monitor)
 }
 
 /// A fault prints its line, and ends its instance.
-fn end_by_fault(
+fn end_by_fault<R: BodyRunner>(
+    runner: &R,
     alloc: Global,
     program: &Program,
     context: &mut Context,
@@ -253,6 +266,7 @@ fn end_by_fault(
     monitor: u16,
     fault: Fault,
 ) -> Result<(), AllocError>
+    requires serves { R.serves runner.now program.now }
     requires typed { Typed program.now }
     requires keeps { Keeps program.now }
     requires stands { Stands program.now number monitor context.old }
@@ -261,11 +275,12 @@ fn end_by_fault(
     ensures small { OnOk result (IsSmall context.new) }
 {
     fault_line(program, context, monitor, fault)?;
-    end_instance(alloc, program, context, number, monitor)
+    end_instance(runner, alloc, program, context, number, monitor)
 }
 
 /// How a run ends.
-fn finish(
+fn finish<R: BodyRunner>(
+    runner: &R,
     alloc: Global,
     program: &Program,
     context: &mut Context,
@@ -273,6 +288,7 @@ fn finish(
     monitor: u16,
     end: End,
 ) -> Result<(), AllocError>
+    requires serves { R.serves runner.now program.now }
     requires typed { Typed program.now }
     requires keeps { Keeps program.now }
     requires stands { Stands program.now number monitor context.old }
@@ -281,9 +297,9 @@ fn finish(
     ensures small { OnOk result (IsSmall context.new) }
 {
     match end {
-        End::Done(_value) => end_if_idle(alloc, program, context, number, monitor),
-        End::Died => end_instance(alloc, program, context, number, monitor),
-        End::Failed(fault) => end_by_fault(alloc, program, context, number, monitor, fault),
+        End::Done(_value) => end_if_idle(runner, alloc, program, context, number, monitor),
+        End::Died => end_instance(runner, alloc, program, context, number, monitor),
+        End::Failed(fault) => end_by_fault(runner, alloc, program, context, number, monitor, fault),
         End::Spent => {
             context.spent = true;
             Ok(())
@@ -292,7 +308,8 @@ fn finish(
 }
 
 /// Runs a body in the instance with this number, where it is there, and then ends the instance where the run ends it.
-pub fn run(
+pub fn run<R: BodyRunner>(
+    runner: &R,
     alloc: Global,
     program: &Program,
     context: &mut Context,
@@ -300,6 +317,7 @@ pub fn run(
     body: u16,
     locals: Values,
 ) -> Result<(), AllocError>
+    requires serves { R.serves runner.now program.now }
     requires typed { Typed program.now }
     requires keeps { Keeps program.now }
     requires runs { CanRunIn program.now number body locals context.old }
@@ -311,6 +329,8 @@ pub fn run(
         return Ok(());
     };
     let monitor = context.instances.get(at).monitor;
-    let end = run_at(alloc, program, context, at, number, false, body, locals)?;
-    finish(alloc, program, context, number, monitor, end)
+    let end = run_at(
+        runner, alloc, program, context, at, number, false, body, locals,
+    )?;
+    finish(runner, alloc, program, context, number, monitor, end)
 }

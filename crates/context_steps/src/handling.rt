@@ -12,6 +12,7 @@ ghost use Rattle.context_steps.specs.Steps.{IsSmall, Keeps};
 
 use crate::ends::run;
 use crate::turns::{pay, turn};
+use body_runs::BodyRunner;
 use context_meaning::{Cargo, Context, Instance};
 use epl_values::{EventShapes, List, Value, Values};
 use std::alloc::{AllocError, Global};
@@ -59,13 +60,15 @@ fn begin(context: &mut Context, monitor: u16, globals: Values) -> Result<u64, Al
 }
 
 /// An instance of a monitor begins, and its `onload` runs.
-fn begin_monitor(
+fn begin_monitor<R: BodyRunner>(
+    runner: &R,
     alloc: Global,
     program: &Program,
     context: &mut Context,
     number: u16,
     monitor: &Monitor,
 ) -> Result<(), AllocError>
+    requires serves { R.serves runner.now program.now }
     requires typed { Typed program.now }
     requires keeps { Keeps program.now }
     requires fits { ContextFits program.now context.old }
@@ -77,6 +80,7 @@ fn begin_monitor(
     let globals = defaults_of(alloc, &program.types, monitor.globals.as_slice())?;
     let instance = begin(context, number, globals)?;
     run(
+        runner,
         alloc,
         program,
         context,
@@ -93,12 +97,14 @@ fn monitor_at(program: &Program, number: u16) -> Option<&Monitor>
 }
 
 /// The monitor of a load begins, where it is there.
-fn load_paid(
+fn load_paid<R: BodyRunner>(
+    runner: &R,
     alloc: Global,
     program: &Program,
     context: &mut Context,
     monitor: u16,
 ) -> Result<(), AllocError>
+    requires serves { R.serves runner.now program.now }
     requires typed { Typed program.now }
     requires keeps { Keeps program.now }
     requires fits { ContextFits program.now context.old }
@@ -108,16 +114,18 @@ fn load_paid(
 {
     match monitor_at(program, monitor) {
         None => Ok(()),
-        Some(found) => begin_monitor(alloc, program, context, monitor, found),
+        Some(found) => begin_monitor(runner, alloc, program, context, monitor, found),
     }
 }
 
-fn load(
+fn load<R: BodyRunner>(
+    runner: &R,
     alloc: Global,
     program: &Program,
     context: &mut Context,
     monitor: u16,
 ) -> Result<(), AllocError>
+    requires serves { R.serves runner.now program.now }
     requires typed { Typed program.now }
     requires keeps { Keeps program.now }
     requires fits { ContextFits program.now context.old }
@@ -128,17 +136,19 @@ fn load(
     if !pay(context, 5) {
         return Ok(());
     }
-    load_paid(alloc, program, context, monitor)
+    load_paid(runner, alloc, program, context, monitor)
 }
 
 // ---- an event
 
-fn event(
+fn event<R: BodyRunner>(
+    runner: &R,
     alloc: Global,
     program: &Program,
     context: &mut Context,
     event: &Value,
 ) -> Result<(), AllocError>
+    requires serves { R.serves runner.now program.now }
     requires typed { Typed program.now }
     requires keeps { Keeps program.now }
     requires fits { ContextFits program.now context.old }
@@ -153,16 +163,18 @@ fn event(
     if !pay(context, 5) {
         return Ok(());
     }
-    turn(alloc, program, context, event)
+    turn(runner, alloc, program, context, event)
 }
 
 /// What an entry carries is handled.
-fn cargo(
+fn cargo<R: BodyRunner>(
+    runner: &R,
     alloc: Global,
     program: &Program,
     context: &mut Context,
     cargo: &Cargo,
 ) -> Result<(), AllocError>
+    requires serves { R.serves runner.now program.now }
     requires typed { Typed program.now }
     requires keeps { Keeps program.now }
     requires fits { ContextFits program.now context.old }
@@ -172,8 +184,8 @@ fn cargo(
     ensures small { OnOk result (IsSmall context.new) }
 {
     match cargo {
-        Cargo::Load(monitor) => load(alloc, program, context, *monitor),
-        Cargo::Event(value) => event(alloc, program, context, value),
+        Cargo::Load(monitor) => load(runner, alloc, program, context, *monitor),
+        Cargo::Event(value) => event(runner, alloc, program, context, value),
     }
 }
 
@@ -222,13 +234,15 @@ fn put_onto(waiting: &mut Values, mut row: Values) -> Result<(), AllocError>
 }
 
 /// The first in front is handled; the others wait beside the context.
-fn first(
+fn first<R: BodyRunner>(
+    runner: &R,
     alloc: Global,
     program: &Program,
     context: &mut Context,
     waiting: &mut Values,
     value: Value,
 ) -> Result<(), AllocError>
+    requires serves { R.serves runner.now program.now }
     requires typed { Typed program.now }
     requires keeps { Keeps program.now }
     requires waits { Waits program.now context.old (waiting.old ++ value ∷ []) }
@@ -237,19 +251,21 @@ fn first(
     ensures waits { OnOk result (Waits program.now context.new waiting.new) }
     ensures small { OnOk result (IsSmall context.new) }
 {
-    event(alloc, program, context, &value)?;
+    event(runner, alloc, program, context, &value)?;
     let row = mem::replace(&mut context.row, List::new(alloc));
     put_onto(waiting, row)
 }
 
 /// The first in front is handled, so many times while there is one.
-fn drain(
+fn drain<R: BodyRunner>(
+    runner: &R,
     alloc: Global,
     program: &Program,
     context: &mut Context,
     waiting: &mut Values,
     count: u64,
 ) -> Result<(), AllocError>
+    requires serves { R.serves runner.now program.now }
     requires typed { Typed program.now }
     requires keeps { Keeps program.now }
     requires waits { Waits program.now context.old waiting.old }
@@ -264,14 +280,20 @@ fn drain(
         let Some(value) = waiting.pop() else {
             return Ok(());
         };
-        first(alloc, program, context, waiting, value)?;
+        first(runner, alloc, program, context, waiting, value)?;
         left -= 1;
     }
     Ok(())
 }
 
 /// The first in front is handled, again and again, while there is one.
-fn settle(alloc: Global, program: &Program, context: &mut Context) -> Result<(), AllocError>
+fn settle<R: BodyRunner>(
+    runner: &R,
+    alloc: Global,
+    program: &Program,
+    context: &mut Context,
+) -> Result<(), AllocError>
+    requires serves { R.serves runner.now program.now }
     requires typed { Typed program.now }
     requires keeps { Keeps program.now }
     requires fits { ContextFits program.now context.old }
@@ -283,18 +305,20 @@ fn settle(alloc: Global, program: &Program, context: &mut Context) -> Result<(),
     };
     let front = mem::replace(&mut context.front, List::new(alloc));
     let mut waiting = reversed(front);
-    drain(alloc, program, context, &mut waiting, count)?;
+    drain(runner, alloc, program, context, &mut waiting, count)?;
     context.front = reversed(waiting);
     Ok(())
 }
 
 /// What an entry carries is handled, and then what that put in front.
-fn whole(
+fn whole<R: BodyRunner>(
+    runner: &R,
     alloc: Global,
     program: &Program,
     context: &mut Context,
     load: &Cargo,
 ) -> Result<(), AllocError>
+    requires serves { R.serves runner.now program.now }
     requires typed { Typed program.now }
     requires keeps { Keeps program.now }
     requires fits { ContextFits program.now context.old }
@@ -302,18 +326,20 @@ fn whole(
     requires fuel { IsSmall context.old }
     ensures { OnOk result (context.new ≡ handled_whole program.now load.now context.old) }
 {
-    cargo(alloc, program, context, load)?;
+    cargo(runner, alloc, program, context, load)?;
     put_front(alloc, program, context)?;
-    settle(alloc, program, context)
+    settle(runner, alloc, program, context)
 }
 
-fn handle_kept(
+fn handle_kept<R: BodyRunner>(
+    runner: &R,
     alloc: Global,
     program: &Program,
     context: &mut Context,
     number: u64,
     cargo: &Cargo,
 ) -> Result<(), AllocError>
+    requires serves { R.serves runner.now program.now }
     requires typed { Typed program.now }
     requires keeps { Keeps program.now }
     requires fits { ContextFits program.now context.old }
@@ -325,18 +351,20 @@ fn handle_kept(
         context.spent = true;
         return Ok(());
     }
-    whole(alloc, program, context, cargo)
+    whole(runner, alloc, program, context, cargo)
 }
 
 /// Handles what an entry carries under the number of the handling, as naive evaluation does. After want of memory nothing is said
 /// of the context.
-pub fn handle(
+pub fn handle<R: BodyRunner>(
+    runner: &R,
     alloc: Global,
     program: &Program,
     context: &mut Context,
     number: u64,
     cargo: &Cargo,
 ) -> Result<(), AllocError>
+    requires serves { R.serves runner.now program.now }
     requires typed { Typed program.now }
     requires fits { ContextFits program.now context.old }
     requires cargo { CargoFits program.now cargo.now }
@@ -344,5 +372,5 @@ pub fn handle(
     ensures { OnOk result (context.new ≡ handle program.now context.old number cargo.now) }
 {
     runs_keep_shapes();
-    handle_kept(alloc, program, context, number, cargo)
+    handle_kept(runner, alloc, program, context, number, cargo)
 }

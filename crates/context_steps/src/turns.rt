@@ -13,6 +13,7 @@ ghost use Rattle.context_steps.specs.Steps.{CanRunIn, IsSmall, Keeps};
 ghost use Rattle.context_steps.specs.Calls.{count_below, bound_value, call_at, call_tested, call_stepped, call_found, paid};
 
 use crate::ends::run;
+use body_runs::BodyRunner;
 use context_meaning::{Context, Listener};
 use epl_tree::Mode;
 use epl_values::{EventShapes, List, Value, Values, copy};
@@ -306,12 +307,14 @@ pub fn pay(context: &mut Context, amount: u64) -> bool
 }
 
 /// A callback runs, which is charged.
-fn call_back(
+fn call_back<R: BodyRunner>(
+    runner: &R,
     alloc: Global,
     program: &Program,
     context: &mut Context,
     call: Call,
 ) -> Result<(), AllocError>
+    requires serves { R.serves runner.now program.now }
     requires typed { Typed program.now }
     requires keeps { Keeps program.now }
     requires runs { CanRunIn program.now call.instance call.body call.locals context.old }
@@ -327,17 +330,19 @@ fn call_back(
     if !pay(context, 1) {
         return Ok(());
     }
-    run(alloc, program, context, instance, body, locals)
+    run(runner, alloc, program, context, instance, body, locals)
 }
 
 /// The listener of a birth is stepped, where it is live.
-fn step(
+fn step<R: BodyRunner>(
+    runner: &R,
     alloc: Global,
     program: &Program,
     context: &mut Context,
     event: &Value,
     birth: u64,
 ) -> Result<(), AllocError>
+    requires serves { R.serves runner.now program.now }
     requires typed { Typed program.now }
     requires keeps { Keeps program.now }
     requires fits { ContextFits program.now context.old }
@@ -348,18 +353,20 @@ fn step(
 {
     match call_of(alloc, program, context, birth, event)? {
         None => Ok(()),
-        Some(call) => call_back(alloc, program, context, call),
+        Some(call) => call_back(runner, alloc, program, context, call),
     }
 }
 
 /// The same, while the context isn't spent.
-fn step_unless_spent(
+fn step_unless_spent<R: BodyRunner>(
+    runner: &R,
     alloc: Global,
     program: &Program,
     context: &mut Context,
     event: &Value,
     birth: u64,
 ) -> Result<(), AllocError>
+    requires serves { R.serves runner.now program.now }
     requires typed { Typed program.now }
     requires keeps { Keeps program.now }
     requires fits { ContextFits program.now context.old }
@@ -372,7 +379,7 @@ fn step_unless_spent(
     if context.spent {
         return Ok(());
     }
-    step(alloc, program, context, event, birth)
+    step(runner, alloc, program, context, event, birth)
 }
 
 fn births_of(alloc: Global, listeners: &[Listener]) -> Result<Vec<u64>, AllocError>
@@ -386,13 +393,15 @@ fn births_of(alloc: Global, listeners: &[Listener]) -> Result<Vec<u64>, AllocErr
 }
 
 /// The listeners of these births are stepped, each while it is live.
-fn step_all(
+fn step_all<R: BodyRunner>(
+    runner: &R,
     alloc: Global,
     program: &Program,
     context: &mut Context,
     event: &Value,
     births: &[u64],
 ) -> Result<(), AllocError>
+    requires serves { R.serves runner.now program.now }
     requires typed { Typed program.now }
     requires keeps { Keeps program.now }
     requires fits { ContextFits program.now context.old }
@@ -402,18 +411,20 @@ fn step_all(
     ensures small { OnOk result (IsSmall context.new) }
 {
     'births: for birth in births {
-        step_unless_spent(alloc, program, context, event, *birth)?;
+        step_unless_spent(runner, alloc, program, context, event, *birth)?;
     }
     Ok(())
 }
 
 /// A turn: the listeners that live now, in order of birth, each while it is live.
-pub fn turn(
+pub fn turn<R: BodyRunner>(
+    runner: &R,
     alloc: Global,
     program: &Program,
     context: &mut Context,
     event: &Value,
 ) -> Result<(), AllocError>
+    requires serves { R.serves runner.now program.now }
     requires typed { Typed program.now }
     requires keeps { Keeps program.now }
     requires fits { ContextFits program.now context.old }
@@ -423,5 +434,5 @@ pub fn turn(
     ensures small { OnOk result (IsSmall context.new) }
 {
     let births = births_of(alloc, context.listeners.as_slice())?;
-    step_all(alloc, program, context, event, births.as_slice())
+    step_all(runner, alloc, program, context, event, births.as_slice())
 }

@@ -2,19 +2,19 @@ use Rattle.std.proofs.Common.{List, ◌≡◌, refl, ap, subst, ◌∙◌, slice
 use Rattle.action_host.specs.Told.{Told}
 use Rattle.plain_host.specs.Told.{told_of}
 use Rattle.typed_runs.specs.Bodies.{BodyFits}
-use Rattle.tree_walker.specs.Comes.{Comes}
+use Rattle.body_runs.specs.Comes.{Comes}
 use Rattle.context_meaning.specs.declared.context.Instance.{Instance}
 use Rattle.context_meaning.specs.Contexts.{apply_all}
 use Rattle.context_steps.proofs.Runs.{body_fits, came, taken_out}
 use Rattle.context_steps.proofs.ends.run_at.Goals as goal
 
 pub run_action-requires-clause-fits : goal.run_action-requires-clause-fits
-run_action-requires-clause-fits c =
+run_action-requires-clause-fits g c =
     let place = c.requires.place in
     subst (λ (i : Instance). BodyFits c.args.program.now c.args.body i.globals c.args.locals) (taken_out c.args.number c.args.at c.args.context.now.instances c.set-instance.result place c.set-instance.ensures.old) (body_fits c.args.program.now c.args.body c.args.locals place.found (c.requires.runs place.found place.is))
 
 pub returns : goal.returns
-returns c =
+returns g c =
     let old = c.args.context.now in
     let empty : Instance = record { number = 0; monitor = 0; globals = c.new.result } in
     let host = c.run_action.new.host in

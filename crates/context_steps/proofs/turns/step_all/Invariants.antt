@@ -5,7 +5,7 @@ use Rattle.context_steps.specs.Steps.{IsSmall}
 use Rattle.context_steps.proofs.turns.step_all.Given as goal
 
 abbrev pub invariant-births : goal.invariant-births
-invariant-births l = record {
+invariant-births g l = record {
   means : turn l.program l.event (drop l.birth-index l.births) l.context ≡ turn l.program l.event l.births l.initial.context;
   fits : ContextFits l.program l.context;
   small : IsSmall l.context;
