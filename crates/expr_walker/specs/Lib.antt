@@ -1,3 +1,4 @@
 pub mod Means
 pub mod CallsBy
+pub mod Walked
 pub mod Leaving

@@ -1,4 +1,5 @@
 ghost use Rattle.std.specs.Prelude.{◌≡◌, ◌&&◌, [], map, Some, IfOk, IfErr, IfSome};
+ghost use Rattle.calm_exprs.specs.Calm.{is_calm, are_calm};
 ghost use Rattle.epl_values.specs.Order.{KeysAscend};
 ghost use Rattle.body_meaning.specs.Expressions.{or_from, and_from, xor_from, links_from, entries_behind, reach_from, default_by, Place, meaning_of};
 ghost use Rattle.typed_program.specs.declared.expression.TypedExpr.{out-TypedExpr};
@@ -10,11 +11,10 @@ ghost use Rattle.body_meaning.specs.Acts.{enter};
 ghost use Rattle.body_meaning.specs.Runs.{all, all_behind, pure};
 ghost use Rattle.body_meaning.specs.Statements.{move_of, moves_in};
 ghost use Rattle.value_steps.specs.Orderly.{IsOrderly, AreOrderly, AreOrderlyPairs, IsOrderlyMove, AreOrderlyMoves};
-ghost use Rattle.calm_exprs.specs.Calm.{is_calm, are_calm};
-ghost use Rattle.path_bases.specs.Bases.{Stands, IsOrderlyBase, Finds};
+ghost use Rattle.path_bases.specs.Bases.{Stands, IsOrderlyBase};
+ghost use Rattle.expr_walker.specs.Leaving.{is_from_global};
 ghost use Rattle.path_bases.specs.Locals.{values_in, frame_of, got_value};
 ghost use Rattle.path_bases.specs.Tells.{Tells};
-ghost use Rattle.expr_walker.specs.Leaving.{is_from_global};
 ghost use Rattle.expr_walker.specs.Means.{value_by, reach_by, link_by, entry_by, compared_by, element_by, found_by, called_by, item_by, key_by, lent_value, lent_values};
 
 use action_host::{Fault, Host};
@@ -54,17 +54,14 @@ impl<
     H: Host,
     F: Fn(Global, &Program, u16, u16, Gots<'_>, &mut Values, &mut H) -> Result<Value, Stop>,
 > Walker<'w, 'x, H, F> {
-    ghost use Rattle.expr_walker.specs.CallsBy.{CallsBy};
+    ghost use Rattle.expr_walker.specs.Walked.{IsReady, Walked, Found, Reached};
 
     /// The value of an expression.
     #[cycle(walk)]
     pub fn value(&self, e: &TypedExpr, globals: &mut Values, host: &mut H) -> Result<Value, Stop>
-        requires calls { CallsBy H.told self.now.program.now self.now.depth (F.pre self.now.call) (F.post self.now.call) }
+        requires ready { IsReady H.told self.now.program.now self.now.depth (F.pre self.now.call) (F.post self.now.call) self.now.locals.now }
         requires globals { AreOrderly globals.old }
-        requires locals { AreOrderly (values_in self.now.locals.now) }
-        ensures means { Tells (value_by self.now.program.now self.now.depth e.now) (H.told host.old) (frame_of globals.old self.now.locals.now) (H.told host.new) (frame_of globals.new self.now.locals.now) result }
-        ensures kept { AreOrderly globals.new }
-        ensures order { IfOk result IsOrderly }
+        ensures { Walked (H.told host.old) globals.old (H.told host.new) globals.new self.now.locals.now (value_by self.now.program.now self.now.depth e.now) IsOrderly result }
     {
         match &e.node {
             TypedNode::Integer(n) => Ok(Value::Integer(*n)),
@@ -165,13 +162,10 @@ impl<
         globals: &mut Values,
         host: &mut H,
     ) -> Result<Value, Stop>
-        requires calls { CallsBy H.told self.now.program.now self.now.depth (F.pre self.now.call) (F.post self.now.call) }
+        requires ready { IsReady H.told self.now.program.now self.now.depth (F.pre self.now.call) (F.post self.now.call) self.now.locals.now }
         requires globals { AreOrderly globals.old }
-        requires locals { AreOrderly (values_in self.now.locals.now) }
         requires order { IsOrderly first }
-        ensures means { Tells (or_from (map (value_by self.now.program.now self.now.depth) rest.now) first) (H.told host.old) (frame_of globals.old self.now.locals.now) (H.told host.new) (frame_of globals.new self.now.locals.now) result }
-        ensures kept { AreOrderly globals.new }
-        ensures order { IfOk result IsOrderly }
+        ensures { Walked (H.told host.old) globals.old (H.told host.new) globals.new self.now.locals.now (or_from (map (value_by self.now.program.now self.now.depth) rest.now) first) IsOrderly result }
     {
         let mut value = first;
         for e in rest.as_slice() {
@@ -191,13 +185,10 @@ impl<
         globals: &mut Values,
         host: &mut H,
     ) -> Result<Value, Stop>
-        requires calls { CallsBy H.told self.now.program.now self.now.depth (F.pre self.now.call) (F.post self.now.call) }
+        requires ready { IsReady H.told self.now.program.now self.now.depth (F.pre self.now.call) (F.post self.now.call) self.now.locals.now }
         requires globals { AreOrderly globals.old }
-        requires locals { AreOrderly (values_in self.now.locals.now) }
         requires order { IsOrderly first }
-        ensures means { Tells (and_from (map (value_by self.now.program.now self.now.depth) rest.now) first) (H.told host.old) (frame_of globals.old self.now.locals.now) (H.told host.new) (frame_of globals.new self.now.locals.now) result }
-        ensures kept { AreOrderly globals.new }
-        ensures order { IfOk result IsOrderly }
+        ensures { Walked (H.told host.old) globals.old (H.told host.new) globals.new self.now.locals.now (and_from (map (value_by self.now.program.now self.now.depth) rest.now) first) IsOrderly result }
     {
         let mut value = first;
         for e in rest.as_slice() {
@@ -217,13 +208,10 @@ impl<
         globals: &mut Values,
         host: &mut H,
     ) -> Result<Value, Stop>
-        requires calls { CallsBy H.told self.now.program.now self.now.depth (F.pre self.now.call) (F.post self.now.call) }
+        requires ready { IsReady H.told self.now.program.now self.now.depth (F.pre self.now.call) (F.post self.now.call) self.now.locals.now }
         requires globals { AreOrderly globals.old }
-        requires locals { AreOrderly (values_in self.now.locals.now) }
         requires order { IsOrderly first }
-        ensures means { Tells (xor_from (map (value_by self.now.program.now self.now.depth) rest.now) first) (H.told host.old) (frame_of globals.old self.now.locals.now) (H.told host.new) (frame_of globals.new self.now.locals.now) result }
-        ensures kept { AreOrderly globals.new }
-        ensures order { IfOk result IsOrderly }
+        ensures { Walked (H.told host.old) globals.old (H.told host.new) globals.new self.now.locals.now (xor_from (map (value_by self.now.program.now self.now.depth) rest.now) first) IsOrderly result }
     {
         let mut value = first;
         for e in rest.as_slice() {
@@ -241,13 +229,10 @@ impl<
         globals: &mut Values,
         host: &mut H,
     ) -> Result<Value, Stop>
-        requires calls { CallsBy H.told self.now.program.now self.now.depth (F.pre self.now.call) (F.post self.now.call) }
+        requires ready { IsReady H.told self.now.program.now self.now.depth (F.pre self.now.call) (F.post self.now.call) self.now.locals.now }
         requires globals { AreOrderly globals.old }
-        requires locals { AreOrderly (values_in self.now.locals.now) }
         requires order { IsOrderly first }
-        ensures means { Tells (links_from (map (link_by self.now.program.now self.now.depth) links.now) first) (H.told host.old) (frame_of globals.old self.now.locals.now) (H.told host.new) (frame_of globals.new self.now.locals.now) result }
-        ensures kept { AreOrderly globals.new }
-        ensures order { IfOk result IsOrderly }
+        ensures { Walked (H.told host.old) globals.old (H.told host.new) globals.new self.now.locals.now (links_from (map (link_by self.now.program.now self.now.depth) links.now) first) IsOrderly result }
     {
         let mut value = first;
         for link in links.as_slice() {
@@ -267,9 +252,8 @@ impl<
         globals: &mut Values,
         host: &mut H,
     ) -> Result<Value, Stop>
-        requires calls { CallsBy H.told self.now.program.now self.now.depth (F.pre self.now.call) (F.post self.now.call) }
+        requires ready { IsReady H.told self.now.program.now self.now.depth (F.pre self.now.call) (F.post self.now.call) self.now.locals.now }
         requires globals { AreOrderly globals.old }
-        requires locals { AreOrderly (values_in self.now.locals.now) }
         requires order { IsOrderlyBase left }
         ensures means { (v : _) → Stands globals.old left.entry v → Tells (compared_by self.now.program.now self.now.depth comparison v right.now) (H.told host.old) (frame_of globals.old self.now.locals.now) (H.told host.new) (frame_of globals.new self.now.locals.now) result }
         ensures kept { AreOrderly globals.new }
@@ -290,12 +274,9 @@ impl<
         globals: &mut Values,
         host: &mut H,
     ) -> Result<Values, Stop>
-        requires calls { CallsBy H.told self.now.program.now self.now.depth (F.pre self.now.call) (F.post self.now.call) }
+        requires ready { IsReady H.told self.now.program.now self.now.depth (F.pre self.now.call) (F.post self.now.call) self.now.locals.now }
         requires globals { AreOrderly globals.old }
-        requires locals { AreOrderly (values_in self.now.locals.now) }
-        ensures means { Tells (all (map (value_by self.now.program.now self.now.depth) es.now)) (H.told host.old) (frame_of globals.old self.now.locals.now) (H.told host.new) (frame_of globals.new self.now.locals.now) result }
-        ensures kept { AreOrderly globals.new }
-        ensures order { IfOk result AreOrderly }
+        ensures { Walked (H.told host.old) globals.old (H.told host.new) globals.new self.now.locals.now (all (map (value_by self.now.program.now self.now.depth) es.now)) AreOrderly result }
     {
         let mut values = List::new(self.alloc);
         for e in es {
@@ -312,12 +293,9 @@ impl<
         globals: &mut Values,
         host: &mut H,
     ) -> Result<Pairs, Stop>
-        requires calls { CallsBy H.told self.now.program.now self.now.depth (F.pre self.now.call) (F.post self.now.call) }
+        requires ready { IsReady H.told self.now.program.now self.now.depth (F.pre self.now.call) (F.post self.now.call) self.now.locals.now }
         requires globals { AreOrderly globals.old }
-        requires locals { AreOrderly (values_in self.now.locals.now) }
-        ensures means { Tells (entries_behind [] (map (entry_by self.now.program.now self.now.depth) entries.now)) (H.told host.old) (frame_of globals.old self.now.locals.now) (H.told host.new) (frame_of globals.new self.now.locals.now) result }
-        ensures kept { AreOrderly globals.new }
-        ensures order { IfOk result (λ pairs. KeysAscend pairs × AreOrderlyPairs pairs) }
+        ensures { Walked (H.told host.old) globals.old (H.told host.new) globals.new self.now.locals.now (entries_behind [] (map (entry_by self.now.program.now self.now.depth) entries.now)) (λ pairs. KeysAscend pairs × AreOrderlyPairs pairs) result }
     {
         let mut pairs = Pairs::new(self.alloc);
         for entry in entries {
@@ -333,9 +311,8 @@ impl<
     /// What is lent to a call: a path from a local by reference, and else a value.
     #[cycle(walk)]
     fn argument(&self, e: &TypedExpr, globals: &mut Values, host: &mut H) -> Result<Got<'_>, Stop>
-        requires calls { CallsBy H.told self.now.program.now self.now.depth (F.pre self.now.call) (F.post self.now.call) }
+        requires ready { IsReady H.told self.now.program.now self.now.depth (F.pre self.now.call) (F.post self.now.call) self.now.locals.now }
         requires globals { AreOrderly globals.old }
-        requires locals { AreOrderly (values_in self.now.locals.now) }
         ensures means { Tells (value_by self.now.program.now self.now.depth e.now) (H.told host.old) (frame_of globals.old self.now.locals.now) (H.told host.new) (frame_of globals.new self.now.locals.now) (lent_value result) }
         ensures kept { AreOrderly globals.new }
         ensures order { IfOk result (λ got. IsOrderly (got_value got)) }
@@ -351,9 +328,8 @@ impl<
         globals: &mut Values,
         host: &mut H,
     ) -> Result<Gots<'_>, Stop>
-        requires calls { CallsBy H.told self.now.program.now self.now.depth (F.pre self.now.call) (F.post self.now.call) }
+        requires ready { IsReady H.told self.now.program.now self.now.depth (F.pre self.now.call) (F.post self.now.call) self.now.locals.now }
         requires globals { AreOrderly globals.old }
-        requires locals { AreOrderly (values_in self.now.locals.now) }
         ensures means { Tells (all (map (value_by self.now.program.now self.now.depth) es.now)) (H.told host.old) (frame_of globals.old self.now.locals.now) (H.told host.new) (frame_of globals.new self.now.locals.now) (lent_values result) }
         ensures kept { AreOrderly globals.new }
         ensures order { IfOk result (λ gots. AreOrderly (values_in gots)) }
@@ -371,12 +347,9 @@ impl<
     /// The base of a path; another expression is a base of its own value.
     #[cycle(walk)]
     pub fn base(&self, e: &TypedExpr, globals: &mut Values, host: &mut H) -> Result<Base<'_>, Stop>
-        requires calls { CallsBy H.told self.now.program.now self.now.depth (F.pre self.now.call) (F.post self.now.call) }
+        requires ready { IsReady H.told self.now.program.now self.now.depth (F.pre self.now.call) (F.post self.now.call) self.now.locals.now }
         requires globals { AreOrderly globals.old }
-        requires locals { AreOrderly (values_in self.now.locals.now) }
-        ensures means { Finds (value_by self.now.program.now self.now.depth e.now) (H.told host.old) (frame_of globals.old self.now.locals.now) (H.told host.new) (frame_of globals.new self.now.locals.now) result }
-        ensures kept { AreOrderly globals.new }
-        ensures order { IfOk result (λ b. IsOrderlyBase b) }
+        ensures { Found (H.told host.old) globals.old (H.told host.new) globals.new self.now.locals.now (value_by self.now.program.now self.now.depth e.now) result }
     {
         match &e.node {
             TypedNode::Global(n) => Ok(global_base(self.alloc, globals, *n)),
@@ -401,13 +374,10 @@ impl<
         globals: &mut Values,
         host: &mut H,
     ) -> Result<Base<'s>, Stop>
-        requires calls { CallsBy H.told self.now.program.now self.now.depth (F.pre self.now.call) (F.post self.now.call) }
+        requires ready { IsReady H.told self.now.program.now self.now.depth (F.pre self.now.call) (F.post self.now.call) self.now.locals.now }
         requires globals { AreOrderly globals.old }
-        requires locals { AreOrderly (values_in self.now.locals.now) }
         requires order { IsOrderlyBase first }
-        ensures means { (v : _) → Stands globals.old first.entry v → Finds (reach_from (map (reach_by self.now.program.now self.now.depth) steps.now) v) (H.told host.old) (frame_of globals.old self.now.locals.now) (H.told host.new) (frame_of globals.new self.now.locals.now) result }
-        ensures kept { AreOrderly globals.new }
-        ensures order { IfOk result (λ b. IsOrderlyBase b) }
+        ensures { Reached (H.told host.old) globals.old (H.told host.new) globals.new self.now.locals.now (reach_from (map (reach_by self.now.program.now self.now.depth) steps.now)) first.entry result }
     {
         let mut base = first;
         for step in steps {
@@ -424,13 +394,10 @@ impl<
         globals: &mut Values,
         host: &mut H,
     ) -> Result<Base<'s>, Stop>
-        requires calls { CallsBy H.told self.now.program.now self.now.depth (F.pre self.now.call) (F.post self.now.call) }
+        requires ready { IsReady H.told self.now.program.now self.now.depth (F.pre self.now.call) (F.post self.now.call) self.now.locals.now }
         requires globals { AreOrderly globals.old }
-        requires locals { AreOrderly (values_in self.now.locals.now) }
         requires order { IsOrderlyBase base }
-        ensures means { (v : _) → Stands globals.old base.entry v → Finds ((reach_by self.now.program.now self.now.depth step.now).from v) (H.told host.old) (frame_of globals.old self.now.locals.now) (H.told host.new) (frame_of globals.new self.now.locals.now) result }
-        ensures kept { AreOrderly globals.new }
-        ensures order { IfOk result (λ b. IsOrderlyBase b) }
+        ensures { Reached (H.told host.old) globals.old (H.told host.new) globals.new self.now.locals.now ((reach_by self.now.program.now self.now.depth step.now).from) base.entry result }
     {
         match &step.node {
             TypedSuffixNode::Field(n) => stepped(self.alloc, base, Move::Field(*n), globals),
@@ -451,13 +418,10 @@ impl<
         globals: &mut Values,
         host: &mut H,
     ) -> Result<Base<'s>, Stop>
-        requires calls { CallsBy H.told self.now.program.now self.now.depth (F.pre self.now.call) (F.post self.now.call) }
+        requires ready { IsReady H.told self.now.program.now self.now.depth (F.pre self.now.call) (F.post self.now.call) self.now.locals.now }
         requires globals { AreOrderly globals.old }
-        requires locals { AreOrderly (values_in self.now.locals.now) }
         requires order { IsOrderlyBase base }
-        ensures means { (v : _) → Stands globals.old base.entry v → Finds (element_by self.now.program.now self.now.depth v e.now) (H.told host.old) (frame_of globals.old self.now.locals.now) (H.told host.new) (frame_of globals.new self.now.locals.now) result }
-        ensures kept { AreOrderly globals.new }
-        ensures order { IfOk result (λ b. IsOrderlyBase b) }
+        ensures { Reached (H.told host.old) globals.old (H.told host.new) globals.new self.now.locals.now (λ v. element_by self.now.program.now self.now.depth v e.now) base.entry result }
     {
         let base = held_unless(self.alloc, leaves(e, &base), base, globals)?;
         let to = self.item(e, globals, host)?;
@@ -473,13 +437,10 @@ impl<
         globals: &mut Values,
         host: &mut H,
     ) -> Result<Base<'s>, Stop>
-        requires calls { CallsBy H.told self.now.program.now self.now.depth (F.pre self.now.call) (F.post self.now.call) }
+        requires ready { IsReady H.told self.now.program.now self.now.depth (F.pre self.now.call) (F.post self.now.call) self.now.locals.now }
         requires globals { AreOrderly globals.old }
-        requires locals { AreOrderly (values_in self.now.locals.now) }
         requires order { IsOrderlyBase base }
-        ensures means { (v : _) → Stands globals.old base.entry v → Finds (found_by self.now.program.now self.now.depth v e.now) (H.told host.old) (frame_of globals.old self.now.locals.now) (H.told host.new) (frame_of globals.new self.now.locals.now) result }
-        ensures kept { AreOrderly globals.new }
-        ensures order { IfOk result (λ b. IsOrderlyBase b) }
+        ensures { Reached (H.told host.old) globals.old (H.told host.new) globals.new self.now.locals.now (λ v. found_by self.now.program.now self.now.depth v e.now) base.entry result }
     {
         let base = held_unless(self.alloc, leaves(e, &base), base, globals)?;
         let to = self.key(e, globals, host)?;
@@ -496,13 +457,10 @@ impl<
         globals: &mut Values,
         host: &mut H,
     ) -> Result<Base<'s>, Stop>
-        requires calls { CallsBy H.told self.now.program.now self.now.depth (F.pre self.now.call) (F.post self.now.call) }
+        requires ready { IsReady H.told self.now.program.now self.now.depth (F.pre self.now.call) (F.post self.now.call) self.now.locals.now }
         requires globals { AreOrderly globals.old }
-        requires locals { AreOrderly (values_in self.now.locals.now) }
         requires order { IsOrderlyBase base }
-        ensures means { (v : _) → Stands globals.old base.entry v → Finds (called_by self.now.program.now self.now.depth name v arguments.now) (H.told host.old) (frame_of globals.old self.now.locals.now) (H.told host.new) (frame_of globals.new self.now.locals.now) result }
-        ensures kept { AreOrderly globals.new }
-        ensures order { IfOk result (λ b. IsOrderlyBase b) }
+        ensures { Reached (H.told host.old) globals.old (H.told host.new) globals.new self.now.locals.now (λ v. called_by self.now.program.now self.now.depth name v arguments.now) base.entry result }
     {
         let arguments = arguments.as_slice();
         let base = held_unless(self.alloc, leave(arguments, &base), base, globals)?;
@@ -514,12 +472,9 @@ impl<
 
     #[cycle(walk)]
     fn item(&self, e: &TypedExpr, globals: &mut Values, host: &mut H) -> Result<Move, Stop>
-        requires calls { CallsBy H.told self.now.program.now self.now.depth (F.pre self.now.call) (F.post self.now.call) }
+        requires ready { IsReady H.told self.now.program.now self.now.depth (F.pre self.now.call) (F.post self.now.call) self.now.locals.now }
         requires globals { AreOrderly globals.old }
-        requires locals { AreOrderly (values_in self.now.locals.now) }
-        ensures means { Tells (item_by self.now.program.now self.now.depth e.now) (H.told host.old) (frame_of globals.old self.now.locals.now) (H.told host.new) (frame_of globals.new self.now.locals.now) result }
-        ensures kept { AreOrderly globals.new }
-        ensures order { IfOk result IsOrderlyMove }
+        ensures { Walked (H.told host.old) globals.old (H.told host.new) globals.new self.now.locals.now (item_by self.now.program.now self.now.depth e.now) IsOrderlyMove result }
     {
         let value = self.value(e, globals, host)?;
         Ok(Move::Item(integer(&value)))
@@ -527,12 +482,9 @@ impl<
 
     #[cycle(walk)]
     fn key(&self, e: &TypedExpr, globals: &mut Values, host: &mut H) -> Result<Move, Stop>
-        requires calls { CallsBy H.told self.now.program.now self.now.depth (F.pre self.now.call) (F.post self.now.call) }
+        requires ready { IsReady H.told self.now.program.now self.now.depth (F.pre self.now.call) (F.post self.now.call) self.now.locals.now }
         requires globals { AreOrderly globals.old }
-        requires locals { AreOrderly (values_in self.now.locals.now) }
-        ensures means { Tells (key_by self.now.program.now self.now.depth e.now) (H.told host.old) (frame_of globals.old self.now.locals.now) (H.told host.new) (frame_of globals.new self.now.locals.now) result }
-        ensures kept { AreOrderly globals.new }
-        ensures order { IfOk result IsOrderlyMove }
+        ensures { Walked (H.told host.old) globals.old (H.told host.new) globals.new self.now.locals.now (key_by self.now.program.now self.now.depth e.now) IsOrderlyMove result }
     {
         let value = self.value(e, globals, host)?;
         Ok(Move::Key(value))
@@ -540,12 +492,9 @@ impl<
 
     /// The step of a path that is changed or assigned; a method leads nowhere.
     fn step(&self, step: &TypedSuffix, globals: &mut Values, host: &mut H) -> Result<Move, Stop>
-        requires calls { CallsBy H.told self.now.program.now self.now.depth (F.pre self.now.call) (F.post self.now.call) }
+        requires ready { IsReady H.told self.now.program.now self.now.depth (F.pre self.now.call) (F.post self.now.call) self.now.locals.now }
         requires globals { AreOrderly globals.old }
-        requires locals { AreOrderly (values_in self.now.locals.now) }
-        ensures means { Tells (move_of (reach_by self.now.program.now self.now.depth step.now).move) (H.told host.old) (frame_of globals.old self.now.locals.now) (H.told host.new) (frame_of globals.new self.now.locals.now) result }
-        ensures kept { AreOrderly globals.new }
-        ensures order { IfOk result IsOrderlyMove }
+        ensures { Walked (H.told host.old) globals.old (H.told host.new) globals.new self.now.locals.now (move_of (reach_by self.now.program.now self.now.depth step.now).move) IsOrderlyMove result }
     {
         match &step.node {
             TypedSuffixNode::Field(n) => Ok(Move::Field(*n)),
@@ -563,13 +512,10 @@ impl<
         globals: &mut Values,
         host: &mut H,
     ) -> Result<List<Move>, Stop>
-        requires calls { CallsBy H.told self.now.program.now self.now.depth (F.pre self.now.call) (F.post self.now.call) }
+        requires ready { IsReady H.told self.now.program.now self.now.depth (F.pre self.now.call) (F.post self.now.call) self.now.locals.now }
         requires globals { AreOrderly globals.old }
-        requires locals { AreOrderly (values_in self.now.locals.now) }
         requires order { AreOrderlyMoves before }
-        ensures means { Tells (all_behind before (moves_in (map (reach_by self.now.program.now self.now.depth) steps.now))) (H.told host.old) (frame_of globals.old self.now.locals.now) (H.told host.new) (frame_of globals.new self.now.locals.now) result }
-        ensures kept { AreOrderly globals.new }
-        ensures order { IfOk result AreOrderlyMoves }
+        ensures { Walked (H.told host.old) globals.old (H.told host.new) globals.new self.now.locals.now (all_behind before (moves_in (map (reach_by self.now.program.now self.now.depth) steps.now))) AreOrderlyMoves result }
     {
         let mut moves = before;
         for step in steps {
@@ -586,9 +532,8 @@ impl<
         globals: &mut Values,
         host: &mut H,
     ) -> Result<List<Move>, Stop>
-        requires calls { CallsBy H.told self.now.program.now self.now.depth (F.pre self.now.call) (F.post self.now.call) }
+        requires ready { IsReady H.told self.now.program.now self.now.depth (F.pre self.now.call) (F.post self.now.call) self.now.locals.now }
         requires globals { AreOrderly globals.old }
-        requires locals { AreOrderly (values_in self.now.locals.now) }
         ensures means { (p : Place) → (meaning_of self.now.program.now.types (enter self.now.program.now self.now.depth) e.now).place ≡ Some p → Tells (all p.moves) (H.told host.old) (frame_of globals.old self.now.locals.now) (H.told host.new) (frame_of globals.new self.now.locals.now) result }
         ensures kept { AreOrderly globals.new }
         ensures order { IfOk result AreOrderlyMoves }
