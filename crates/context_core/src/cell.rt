@@ -11,6 +11,7 @@ use epl_values::{List, Memory};
 use naive_meaning::{ContextRecord, Entries, Entry, Handled, HandledList, Program, Settings};
 use std::alloc::Global;
 use std::marker::Model;
+use tree_walker::TreeWalker;
 use typed_runs::runs_keep_shapes;
 
 /// A running context: what it is, the number of its last handling, and its log.
@@ -91,7 +92,14 @@ impl Cell {
         let Some(number) = self.number.max(entry.stamp).checked_add(1) else {
             return Err(Memory);
         };
-        handle(self.alloc, program, &mut self.context, number, &entry.cargo)?;
+        handle(
+            &TreeWalker,
+            self.alloc,
+            program,
+            &mut self.context,
+            number,
+            &entry.cargo,
+        )?;
         self.number = number;
         self.log.push(Handled { entry, number })?;
         if self.context.spent {
