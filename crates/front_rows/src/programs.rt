@@ -68,7 +68,9 @@ pub fn check_told(alloc: Global, files: &[Vec<u8>]) -> Result<String> {
 
 fn checked(alloc: Global, files: &[Vec<u8>]) -> Result<Program, ProgramFault> {
     let trees = units_of(alloc, files)?;
-    match check(alloc, trees) {
+    let told = check(alloc, &trees);
+    discard(trees);
+    match told {
         Ok(program) => Ok(program),
         Err(fault) => Err(typing(fault)),
     }

@@ -1,5 +1,6 @@
 ghost use Rattle.std.specs.Prelude.{◌≡◌, ◌≤◌, ◌<◌, length, IfOk};
 ghost use Rattle.std.specs.List.{AllByRecursion};
+ghost use Rattle.stmt_check.specs.Programs.{Checks};
 ghost use Rattle.typed_program.specs.Typed.{Typed};
 ghost use Rattle.evt_text.specs.Forms.{AreEventTypes};
 ghost use Rattle.epl_syntax.specs.Trees.{TreesTold};
@@ -8,7 +9,7 @@ ghost use Rattle.program_reader.specs.Steps.{BuiltTold, ProgramTold, TreesRead};
 
 use crate::ProgramFault;
 use built_forms::unbuilt;
-use epl_syntax::{SyntaxFault, units};
+use epl_syntax::{SyntaxFault, discard, units};
 use epl_tree::Units;
 use epl_values::{Bytes, List};
 use program_check::check;
@@ -31,6 +32,17 @@ fn trees_of(alloc: Global, texts: &List<Bytes>) -> Result<Units, ProgramFault>
     }
 }
 
+/// The typed program of trees, which are let go.
+fn checked(alloc: Global, units: Units) -> Result<Program, CheckFault>
+    requires { length units ≤ 4294967295 }
+    ensures told { Checks result units }
+    ensures typed { IfOk result Typed }
+{
+    let told = check(alloc, &units);
+    discard(units);
+    told
+}
+
 fn built(form: Option<(u32, Spot)>, program: Program) -> Result<Program, ProgramFault>
     ensures { BuiltTold form program result }
 {
@@ -45,7 +57,7 @@ fn program_of(alloc: Global, units: Units) -> Result<Program, ProgramFault>
     ensures { ProgramTold units result }
 {
     let form = unbuilt(&units);
-    match check(alloc, units) {
+    match checked(alloc, units) {
         Ok(program) => built(form, program),
         Err(CheckFault::Typing(code, file, spot)) => Err(ProgramFault::Typing(code, file, spot)),
         Err(CheckFault::Memory) => Err(ProgramFault::Memory),
