@@ -21,8 +21,8 @@ use Rattle.stmt_check.specs.Steps.{Reads, each}
 use Rattle.name_resolution.specs.Names.{Named, Around}
 use Rattle.name_resolution.specs.Expressions.{ExprIs}
 use Rattle.name_resolution.specs.Statements.{Here, RowIs}
-use Rattle.name_resolution.specs.Agreeing.{Agrees, ActionsAgree}
-use Rattle.name_resolution.specs.Laws.{Fit, Matches, Ready, Fits, every, ExpressionsResolve, EventResolves, EventsResolve, RowResolves, StatementsResolve}
+use Rattle.name_resolution.proofs.Seeing.{Agrees, ActionsAgree}
+use Rattle.name_resolution.proofs.Bodies.{Fit, Matches, Ready, Fits, every, ExpressionsResolve, EventResolves, EventsResolve, RowResolves, StatementsResolve}
 use Rattle.name_resolution.proofs.Sure.{sure_then, sure_sound}
 use Rattle.name_resolution.proofs.Judging.{plain_at}
 use Rattle.name_resolution.proofs.Trees.{expr_reads}

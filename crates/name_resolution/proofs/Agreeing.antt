@@ -15,7 +15,7 @@ use Rattle.expr_rules.specs.Calls.{action_named}
 use Rattle.expr_rules.specs.Names.{seen}
 use Rattle.stmt_check.specs.Captures.{Names, either, any_of}
 use Rattle.name_resolution.specs.Names.{Named, Meant, meaning_of, place_of, held}
-pub use Rattle.name_resolution.specs.Agreeing.{variable_by, meant_by, Agrees, ActionIs, ActionsAgree}
+pub use Rattle.name_resolution.proofs.Seeing.{variable_by, meant_by, Agrees, ActionIs, ActionsAgree}
 
 module _ (names : List Named) (scope : Scope) where
   pub agrees_fewer : (few more : Names) → ((name : List ℕ) → few name ≡ true → more name ≡ true) → Agrees names scope more → Agrees names scope few

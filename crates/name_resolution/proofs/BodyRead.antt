@@ -60,7 +60,7 @@ use Rattle.name_resolution.proofs.Steps.{StepReads, Walked, walked_is, before_pl
 use Rattle.name_resolution.proofs.Steps.{StepsRead}
 use Rattle.name_resolution.proofs.Trees.{expr_reads, step_reads}
 use Rattle.name_resolution.proofs.Claims.{is_called, first_by, by_seen, meaning_mapped, agrees_more, agrees_at, Grown, grown_same, extends_same, Matches, Ready, Fits, Holds, Claim, Still, claim_looks, claim_bind, claim_behind, claim_pure, claim_as}
-pub use Rattle.name_resolution.specs.Laws.{Fit}
+pub use Rattle.name_resolution.proofs.Bodies.{Fit}
 
 -- the names of a part are among those that are known
 abbrev pub Within : Names → Names → Type 0

@@ -22,7 +22,7 @@ use Rattle.name_resolution.specs.Names.{Named, Meant, meaning_of}
 use Rattle.name_resolution.specs.Statements.{Here}
 use Rattle.name_resolution.proofs.Sure.{Sure, no_both, no_told}
 use Rattle.name_resolution.proofs.Agreeing.{Agrees, meant_by}
-pub use Rattle.name_resolution.specs.Laws.{Matches, Ready, Fits}
+pub use Rattle.name_resolution.proofs.Bodies.{Matches, Ready, Fits}
 
 -- ---- the first of a name
 

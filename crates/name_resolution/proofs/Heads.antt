@@ -24,7 +24,7 @@ use Rattle.type_table.specs.Heads.{globals_in as heads_in}
 use Rattle.type_table.specs.Scopes.{global_seen, param_seen, place_in, with_global, globals_after, params_from}
 use Rattle.expr_rules.specs.Names.{item_at}
 use Rattle.name_resolution.specs.Names.{Named, Meant, meaning_of, place_of, held}
-use Rattle.name_resolution.specs.Agreeing.{ActionIs, meant_by}
+use Rattle.name_resolution.proofs.Seeing.{ActionIs, meant_by}
 use Rattle.name_resolution.specs.Units.{actions_in, names_of, global_names, param_names}
 use Rattle.name_resolution.proofs.Claims.{is_called, first_by, by_seen, meaning_mapped, meaning_behind, or_else, item_first, zero_lt, lt_more}
 

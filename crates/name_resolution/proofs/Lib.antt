@@ -1,3 +1,5 @@
+pub mod Seeing
+pub mod Bodies
 pub mod Sure
 pub mod Through
 pub mod Agreeing

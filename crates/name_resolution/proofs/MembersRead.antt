@@ -51,11 +51,11 @@ use Rattle.stmt_check.specs.Steps.{After, Reads, ◌>>=◌, pure, given, looks, 
 use Rattle.name_resolution.specs.Names.{Named, Around, meaning_of, held}
 use Rattle.name_resolution.specs.Types.{TypeIs}
 use Rattle.name_resolution.specs.Expressions.{ExprIs}
-use Rattle.name_resolution.specs.Agreeing.{Agrees, ActionsAgree, meant_by}
-use Rattle.name_resolution.specs.Agreeing.{ActionIs as HeadIs}
+use Rattle.name_resolution.proofs.Seeing.{Agrees, ActionsAgree, meant_by}
+use Rattle.name_resolution.proofs.Seeing.{ActionIs as HeadIs}
 use Rattle.name_resolution.specs.Statements.{Here, MaybeIs, RowIs}
 use Rattle.name_resolution.specs.Statements as stmts
-use Rattle.name_resolution.specs.Laws.{Fit, Matches, Ready, Fits, every, RowResolves}
+use Rattle.name_resolution.proofs.Bodies.{Fit, Matches, Ready, Fits, every, RowResolves}
 use Rattle.name_resolution.specs.Units.{globals_in, actions_in, names_of, global_names, param_names, ParamsAre, ResultIs, ActionIs, ActionsAre, GlobalIs, GlobalsAre}
 use Rattle.name_resolution.specs.Units as rule
 use Rattle.name_resolution.proofs.Sure.{no_both, no_told}

@@ -58,9 +58,9 @@ use Rattle.typed_program.specs.declared.statement.Variable.TheVariants as var
 use Rattle.type_table.specs.declared.scope.SeenKind.{SeenKind}
 use Rattle.type_table.specs.declared.table.Table.{Table}
 use Rattle.listener_check.specs.Bound.{is_among}
-use Rattle.name_resolution.specs.Agreeing.{variable_by}
+use Rattle.name_resolution.proofs.Seeing.{variable_by}
 use Rattle.name_resolution.proofs.BoundRead.{Numbered, Tied, expr_ties, place_meant}
-use Rattle.name_resolution.specs.Agreeing.{meant_by}
+use Rattle.name_resolution.proofs.Seeing.{meant_by}
 use Rattle.name_resolution.proofs.Bound.{IsBound}
 use Rattle.name_resolution.proofs.Heads.{place_some}
 use Rattle.name_resolution.proofs.Claims.{is_called, first_by, first_behind, seen_first, or_else}

@@ -55,7 +55,7 @@ use Rattle.std.proofs.lemmas.Bool.{or_parts}
 use Rattle.typed_program.specs.declared.statement.Variable.TheVariants as var
 use Rattle.name_resolution.specs.Names.{Meant}
 use Rattle.name_resolution.specs.Events.{BoundAs}
-use Rattle.name_resolution.specs.Agreeing.{meant_by}
+use Rattle.name_resolution.proofs.Seeing.{meant_by}
 use Rattle.name_resolution.specs.Names.{Named, Around, held, type_named, meaning_of}
 use Rattle.name_resolution.specs.Events.{Inside, DurationIs, OperandIs, RangeIs, AskIs, field_of, ConstraintsAre, ClausesAre, fields_at, TemplateIs, EventForm, event_form, TermIs, NodeIs, TermsAre}
 use Rattle.name_resolution.specs.Events as rule

@@ -17,7 +17,7 @@ use Rattle.stmt_check.specs.Bodies.{Around as Body}
 use Rattle.stmt_check.specs.Captures.{Names, expr_names, event_names}
 use Rattle.stmt_check.specs.Statements.{row_read, part_of}
 use Rattle.name_resolution.specs.Names.{Named, Around}
-use Rattle.name_resolution.specs.Agreeing.{Agrees, ActionIs, ActionsAgree}
+use Rattle.name_resolution.proofs.Seeing.{Agrees, ActionIs, ActionsAgree}
 use Rattle.name_resolution.specs.Expressions.{ExprIs}
 use Rattle.name_resolution.specs.Events.{TermIs}
 use Rattle.name_resolution.specs.Statements.{Here, BoundAre, RowIs}
