@@ -1,28 +1,21 @@
 -- What the checker's definitions give for trees in which no fault is found is those trees with names resolved.
-use Rattle.std.proofs.Common.{◌≡◌, ℕ, true, false, List, [], ◌∷◌, ◌++◌, map, refl, sym, ap, subst, ◌∙◌}
+use Rattle.std.proofs.Common.{◌≡◌, ℕ, List, [], ◌∷◌, map, refl, sym, subst}
 use Rattle.std.specs.List.{AllByRecursion}
-use Rattle.epl_tree.specs.declared.event.EventExpr.{EventExpr}
-use Rattle.epl_tree.specs.declared.expression.Expr.{Expr}
 use Rattle.epl_tree.specs.declared.statement.Stmt.{Stmt as Tree}
 use Rattle.typed_program.specs.declared.program.Site.{Site}
 use Rattle.typed_program.specs.declared.statement.Stmt.{Stmt}
-use Rattle.type_table.specs.declared.scope.Scope.{Scope}
-use Rattle.type_table.specs.declared.table.Table.{Table}
-use Rattle.expr_rules.specs.Asked.{Demand}
-use Rattle.expr_check.specs.Expressions.{part_of, typed_of, expr_found}
-use Rattle.listener_check.specs.Terms.{term_found}
+use Rattle.expr_check.specs.Expressions.{part_of, typed_of}
 use Rattle.stmt_check.specs.declared.state.State.{State}
 use Rattle.stmt_check.specs.Bodies.{bound_in}
 use Rattle.stmt_check.specs.Bodies.{Around as Body}
-use Rattle.stmt_check.specs.Captures.{expr_names, event_names}
+use Rattle.stmt_check.specs.Captures.{event_names}
 use Rattle.stmt_check.specs.Statements.{row_read}
 use Rattle.stmt_check.specs.Statements.{part_of as stmt_part}
 use Rattle.stmt_check.specs.Steps.{Reads, each}
-use Rattle.name_resolution.specs.Names.{Named, Around}
+use Rattle.name_resolution.specs.Names.{Around}
 use Rattle.name_resolution.specs.Expressions.{ExprIs}
 use Rattle.name_resolution.specs.Statements.{Here, RowIs}
-use Rattle.name_resolution.proofs.Seeing.{Agrees, ActionsAgree}
-use Rattle.name_resolution.proofs.Bodies.{Fit, Matches, Ready, Fits, every, ExpressionsResolve, EventResolves, EventsResolve, RowResolves, StatementsResolve}
+use Rattle.name_resolution.proofs.Bodies.{Fit, Matches, Ready, Fits, every, ExpressionsResolve, EventsResolve, RowResolves, StatementsResolve}
 use Rattle.name_resolution.proofs.Sure.{sure_then, sure_sound}
 use Rattle.name_resolution.proofs.Judging.{plain_at}
 use Rattle.name_resolution.proofs.Trees.{expr_reads}

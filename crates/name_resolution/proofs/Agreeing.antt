@@ -1,20 +1,10 @@
 -- Where the names that a text names stand for what the checker sees by them.
-use Rattle.std.proofs.Common.{◌≡◌, ℕ, ◌+◌, Bool, true, List, [], ◌∷◌, Option, Some, map}
+use Rattle.std.proofs.Common.{◌≡◌, ℕ, true, List, [], ◌∷◌, map}
 use Rattle.std.specs.List.{AllByRecursion}
-use Rattle.std.specs.Option.{option_map}
 use Rattle.std.proofs.lemmas.Bool.{or_left, or_right}
-use Rattle.typed_program.specs.declared.statement.Variable.{Variable}
-use Rattle.typed_program.specs.declared.statement.Variable.TheVariants as variable
 use Rattle.type_table.specs.declared.scope.Scope.{Scope}
-use Rattle.type_table.specs.declared.scope.Seen.{Seen}
-use Rattle.type_table.specs.declared.scope.SeenKind.{SeenKind}
-use Rattle.type_table.specs.declared.scope.SeenKind.TheVariants as kind
-use Rattle.type_table.specs.declared.table.ActionHead.{ActionHead}
-use Rattle.type_table.specs.declared.table.Table.{Table}
-use Rattle.expr_rules.specs.Calls.{action_named}
-use Rattle.expr_rules.specs.Names.{seen}
 use Rattle.stmt_check.specs.Captures.{Names, either, any_of}
-use Rattle.name_resolution.specs.Names.{Named, Meant, meaning_of, place_of, held}
+use Rattle.name_resolution.specs.Names.{Named}
 pub use Rattle.name_resolution.proofs.Seeing.{variable_by, meant_by, Agrees, ActionIs, ActionsAgree}
 
 module _ (names : List Named) (scope : Scope) where

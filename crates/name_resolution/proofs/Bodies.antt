@@ -1,6 +1,5 @@
 -- What is to hold of each part in which no fault is found: of expressions, event expressions and statements in a row.
-use Rattle.std.specs.Prelude.{ℕ, ◌+◌, ◌≤◌, ◌≡◌, Bool, true, false, List, [], ◌++◌, map, length, Some, slice_get}
-use Rattle.epl_values.specs.declared.shape.Shape.{Shape}
+use Rattle.std.specs.Prelude.{ℕ, ◌+◌, ◌≤◌, ◌≡◌, true, false, List, [], ◌++◌, map, length, Some, slice_get}
 use Rattle.epl_tree.specs.declared.event.EventExpr.{EventExpr}
 use Rattle.epl_tree.specs.declared.expression.Expr.{Expr}
 use Rattle.epl_tree.specs.declared.statement.Stmt.{Stmt as Tree}

@@ -1,5 +1,5 @@
 -- Expressions, places, locals and blocks of a body.
-use Rattle.std.proofs.Common.{◌≡◌, ℕ, ◌+◌, min, Bool, true, false, if◌then◌else◌, List, [], ◌∷◌, ◌++◌, map, length, take, Option, Some, None, refl, sym, ap, subst, ◌∙◌}
+use Rattle.std.proofs.Common.{◌≡◌, ℕ, ◌+◌, true, false, List, [], ◌∷◌, ◌++◌, map, length, take, Option, Some, None, refl, sym, ap, subst, ◌∙◌}
 use Rattle.std.specs.List.{AllByRecursion}
 use Rattle.std.specs.Option.{option_map}
 use Rattle.std.specs.Str.{bytes_eq}
@@ -7,7 +7,6 @@ use Rattle.std.proofs.lemmas.Slice.Eq.{bytes_eq-Decides}
 use Rattle.span_text.specs.declared.spot.Spot.{Spot}
 use Rattle.epl_values.specs.declared.shape.Shape.{Shape}
 use Rattle.epl_tree.specs.declared.expression.Expr.{Expr}
-use Rattle.epl_tree.specs.declared.expression.ExprNode.TheOpen as tree
 use Rattle.epl_tree.specs.declared.expression.Suffix.{Suffix}
 use Rattle.epl_tree.specs.declared.name.Name.{Name}
 use Rattle.epl_tree.specs.declared.statement.Place.{Place}
@@ -20,14 +19,11 @@ use Rattle.typed_program.specs.declared.expression.TypedSuffixNode.{TypedSuffixN
 use Rattle.typed_program.specs.declared.program.Site.{Site}
 use Rattle.typed_program.specs.declared.statement.Variable.{Variable}
 use Rattle.typed_program.specs.declared.statement.Variable.TheVariants as var
-use Rattle.type_table.specs.declared.scope.Scope.{Scope}
 use Rattle.type_table.specs.declared.scope.Seen.{Seen}
 use Rattle.type_table.specs.declared.scope.SeenKind.{SeenKind}
-use Rattle.type_table.specs.declared.table.ActionHead.{ActionHead}
 use Rattle.type_table.specs.declared.table.ParamHead.{ParamHead}
 use Rattle.type_table.specs.Found.{Found}
-use Rattle.type_table.specs.Scopes.{with_seen, cut_to}
-use Rattle.expr_rules.specs.declared.calls.Arguments.{Arguments}
+use Rattle.type_table.specs.Scopes.{with_seen}
 use Rattle.expr_rules.specs.declared.placed.Gives.TheVariants as gives
 use Rattle.expr_rules.specs.declared.placed.Judged.{Judged}
 use Rattle.expr_rules.specs.declared.steps.Walk.{Walk}
@@ -35,13 +31,12 @@ use Rattle.expr_rules.specs.Asked.{Demand, assigned}
 use Rattle.expr_rules.specs.Calls.{arguments_found, no_arguments, call_paths, param_wants, items_of, typed_arguments}
 use Rattle.expr_rules.specs.Names.{seen, outer_code, variable, root_of, name_found}
 use Rattle.expr_rules.specs.Places.{known, placed, judged, shape_given}
-use Rattle.expr_rules.specs.Postfix.{Step, leads, demand_before, walk_start, walked_from, walk_found}
-use Rattle.expr_rules.specs.Then.{and_then, sound}
+use Rattle.expr_rules.specs.Postfix.{leads, demand_before, walk_start, walked_from, walk_found}
 use Rattle.expr_check.specs.declared.check.Target.{Target}
 use Rattle.expr_check.specs.Checks.{variable_layer, target_at, target_of, target, place_found}
 use Rattle.expr_check.specs.Expressions.{part_of, step_of, typed_of, expr_found}
 use Rattle.stmt_check.specs.declared.state.State.{State}
-use Rattle.stmt_check.specs.Bodies.{known_shape, local_codes, counted, name_read, seen_local, with_local, local_read, left, scoped, action_named}
+use Rattle.stmt_check.specs.Bodies.{known_shape, counted, name_read, seen_local, with_local, local_read, left, scoped}
 use Rattle.stmt_check.specs.Bodies.{Around as Body}
 use Rattle.stmt_check.specs.Captures.{Names, any_of, expr_names, suffix_names, place_names}
 use Rattle.stmt_check.specs.Statements.{reads, args_read, maybe_read}
@@ -51,15 +46,15 @@ use Rattle.name_resolution.specs.Expressions.{form_of, typed_form, shape_of, var
 use Rattle.name_resolution.specs.Statements.{Here, shape_or_integer, leaving, PlaceIs, MaybeIs}
 use Rattle.name_resolution.specs.Statements.{with_local as local_more}
 use Rattle.name_resolution.specs.Statements as rule
-use Rattle.name_resolution.proofs.Sure.{Sure, sure_sound, sure_then, sure_as, no_both, no_told}
-use Rattle.name_resolution.proofs.Agreeing.{Agrees, ActionIs, ActionsAgree, variable_by, meant_by, agrees_fewer, agrees_left, agrees_right, agrees_first, agrees_rest, agrees_all}
+use Rattle.name_resolution.proofs.Sure.{Sure, sure_sound, sure_then, sure_as}
+use Rattle.name_resolution.proofs.Agreeing.{Agrees, ActionsAgree, variable_by, meant_by, agrees_fewer, agrees_left, agrees_right, agrees_first, agrees_rest, agrees_all}
 use Rattle.name_resolution.proofs.Judging.{Is, plain_at, placed_shape, placed_own}
 use Rattle.name_resolution.proofs.Judging.{Reads as PartReads}
 use Rattle.name_resolution.proofs.Values.{arguments_are, known_given, variable_is}
-use Rattle.name_resolution.proofs.Steps.{StepReads, Walked, walked_is, before_plain}
+use Rattle.name_resolution.proofs.Steps.{Walked, walked_is}
 use Rattle.name_resolution.proofs.Steps.{StepsRead}
 use Rattle.name_resolution.proofs.Trees.{expr_reads, step_reads}
-use Rattle.name_resolution.proofs.Claims.{is_called, first_by, by_seen, meaning_mapped, agrees_more, agrees_at, Grown, grown_same, extends_same, Matches, Ready, Fits, Holds, Claim, Still, claim_looks, claim_bind, claim_behind, claim_pure, claim_as}
+use Rattle.name_resolution.proofs.Claims.{by_seen, meaning_mapped, agrees_more, agrees_at, Grown, grown_same, extends_same, Matches, Ready, Claim, Still, claim_looks, claim_behind, claim_pure}
 pub use Rattle.name_resolution.proofs.Bodies.{Fit}
 
 -- the names of a part are among those that are known

@@ -1,5 +1,5 @@
 -- The names that an event expression binds stand behind those around it.
-use Rattle.std.proofs.Common.{◌≡◌, ℕ, Bool, true, false, if◌then◌else◌, List, [], ◌∷◌, ◌++◌, map, length, drop, Option, Some, None, is_some, refl, sym, ap, subst, ◌∙◌, append_assoc}
+use Rattle.std.proofs.Common.{◌≡◌, ℕ, Bool, true, false, if◌then◌else◌, List, [], ◌∷◌, ◌++◌, map, length, drop, is_some, refl, sym, ap, subst, ◌∙◌, append_assoc}
 use Rattle.std.specs.List.{AllByRecursion}
 use Rattle.std.proofs.Math.Seq.{drop-append_seam}
 use Rattle.epl_tree.specs.declared.event.EventExpr.{EventExpr, EventExpr-F, map-EventExpr, roll-EventExpr, fold-roll-EventExpr}
@@ -13,7 +13,7 @@ use Rattle.type_table.specs.declared.scope.Seen.{Seen}
 use Rattle.type_table.specs.declared.scope.SeenKind.TheVariants as kind
 use Rattle.type_table.specs.declared.table.Table.{Table}
 use Rattle.type_table.specs.Table.{seen_of}
-use Rattle.listener_check.specs.Bound.{seen_bound, with_bound, clause_binds, clauses_bind, each, node_step, expr_step, binds, inner_of}
+use Rattle.listener_check.specs.Bound.{seen_bound, clause_binds, clauses_bind, each, node_step, expr_step, binds, inner_of}
 use Rattle.name_resolution.proofs.Through.{append_none}
 
 -- a bound name

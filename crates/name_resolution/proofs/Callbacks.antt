@@ -1,13 +1,11 @@
 -- A listener: its site stands at its number, with its event expression and its callback.
-use Rattle.std.proofs.Common.{◌≡◌, ℕ, zero, suc, ◌+◌, ◌<◌, ◌≤◌, ◌==◌, min, nat_le, nat_lt, count_by, Bool, true, false, cond, ◌&&◌, ◌||◌, not, if◌then◌else◌, List, [], ◌∷◌, ◌++◌, map, length, drop, insert, Option, Some, None, refl, sym, ap, subst, ◌∙◌, slice_get, arith}
+use Rattle.std.proofs.Common.{◌≡◌, ℕ, zero, suc, ◌+◌, ◌<◌, ◌≤◌, ◌==◌, min, nat_lt, count_by, Bool, true, false, cond, ◌&&◌, ◌||◌, not, if◌then◌else◌, List, [], ◌∷◌, map, length, insert, Option, Some, None, refl, sym, ap, subst, ◌∙◌, slice_get, arith}
 use Rattle.std.specs.List.{AllByRecursion, list_any, filter}
 use Rattle.std.specs.Option.{option_map}
 use Rattle.std.specs.Prelude.{fold}
 use Rattle.std.specs.Str.{bytes_eq}
-use Rattle.std.proofs.lemmas.Bool.{or_left, or_right, or_parts, eq-eqb}
-use Rattle.std.proofs.lemmas.Bool.Decides.{nat_tests}
+use Rattle.std.proofs.lemmas.Bool.{eq-eqb}
 use Rattle.std.proofs.lemmas.List.{length-map}
-use Rattle.std.proofs.lemmas.List.Edits.{length-insert}
 use Rattle.std.proofs.lemmas.Slice.Eq.{bytes_eq-Decides}
 use Rattle.epl_values.specs.declared.shape.Shape.{Shape}
 use Rattle.typed_program.specs.declared.program.Local.{Local}
@@ -18,9 +16,8 @@ use Rattle.type_table.specs.declared.scope.Seen.{Seen}
 use Rattle.type_table.specs.declared.scope.SeenKind.{SeenKind}
 use Rattle.type_table.specs.declared.scope.SeenKind.TheVariants as kind
 use Rattle.stmt_check.specs.declared.state.State.{State}
-use Rattle.stmt_check.specs.Bodies.{known_shape, captured_in, outer_kind, place_among, outer_seen, bound_seen, callback_scope, callback_start, local_of, is_global}
+use Rattle.stmt_check.specs.Bodies.{captured_in, outer_kind, place_among, outer_seen, bound_seen, callback_scope, callback_start, local_of, is_global}
 use Rattle.stmt_check.specs.Captures.{Names}
-use Rattle.listener_check.specs.Bound.{bound_of}
 use Rattle.listener_check.specs.Bound.{local_of as bound_local, local_shape}
 use Rattle.name_resolution.specs.Names.{Named, Meant, held, meaning_of}
 use Rattle.name_resolution.specs.Statements.{Here, shape_or_integer, is_captured, carry, carried, moved, moved_name, BoundAre}

@@ -1,5 +1,5 @@
 -- Monitors and files in order: each monitor of the program is its declaration with names resolved.
-use Rattle.std.proofs.Common.{◌≡◌, ℕ, zero, suc, ◌+◌, ◌<◌, ◌≤◌, min, nat_le, Bool, true, false, not, List, [], ◌∷◌, ◌++◌, map, length, Option, Some, None, refl, sym, ap, subst, ◌∙◌, slice_get, position, arith, append_assoc, codes}
+use Rattle.std.proofs.Common.{◌≡◌, ℕ, suc, ◌+◌, ◌<◌, ◌≤◌, nat_le, Bool, true, false, not, List, [], ◌∷◌, ◌++◌, map, length, Option, Some, None, refl, sym, ap, subst, ◌∙◌, slice_get, position, arith, append_assoc, codes}
 use Rattle.std.specs.Option.{option_map}
 use Rattle.std.specs.Str.{bytes_eq}
 use Rattle.std.proofs.lemmas.Bool.{leb-false}
@@ -21,10 +21,8 @@ use Rattle.type_table.specs.declared.fault.CheckFault.TheVariants as check
 use Rattle.type_table.specs.declared.fault.Fault.{Fault}
 use Rattle.type_table.specs.declared.gathered.Gathered.{Gathered}
 use Rattle.type_table.specs.declared.table.ActionHead.{ActionHead}
-use Rattle.type_table.specs.declared.table.GlobalHead.{GlobalHead}
 use Rattle.type_table.specs.declared.table.MonitorHead.{MonitorHead}
 use Rattle.type_table.specs.declared.table.Table.{Table}
-use Rattle.type_table.specs.Found.{told}
 use Rattle.type_table.specs.Gathers.{numbers, with_event, with_monitor, monitor_faults, declaration_faults, faults_from, gathered_after, units_faults, units_gathered, none_gathered, in_file, event_shape, IsTable}
 use Rattle.type_table.specs.Gathers.{when as cause}
 use Rattle.type_table.specs.Heads.{monitor_head, actions_from, has_onload}
@@ -37,10 +35,10 @@ use Rattle.stmt_check.specs.declared.made.Made.{Made}
 use Rattle.stmt_check.specs.Bodies.{short, action_named}
 use Rattle.stmt_check.specs.Members.{members_read, monitor_of, monitor_read, action_number}
 use Rattle.stmt_check.specs.Members.{with_monitor as made_monitor, number_of as number_made, or_zero as zero_made}
-use Rattle.stmt_check.specs.Programs.{declarations_read, file_made, files_faults, files_made, nothing_made, made_of, program_of, IsProgram}
+use Rattle.stmt_check.specs.Programs.{declarations_read, file_made, files_faults, files_made, nothing_made, IsProgram}
 use Rattle.stmt_check.specs.Programs.{in_file as faults_in}
 use Rattle.stmt_check.specs.Steps.{◌>>=◌, pure, changes}
-use Rattle.name_resolution.specs.Names.{Around, held, place_of}
+use Rattle.name_resolution.specs.Names.{held}
 use Rattle.name_resolution.specs.Units.{declarations_in, monitors_in, globals_in, actions_in, names_of, number_of, or_zero, GlobalsAre, MonitorIs, MonitorsAre}
 use Rattle.name_resolution.specs.Units as rule
 use Rattle.name_resolution.proofs.Sure.{no_both, no_told}

@@ -1,5 +1,5 @@
 -- Event types: where no fault is found each is declared once, and its fields have their types.
-use Rattle.std.proofs.Common.{◌≡◌, ℕ, ◌+◌, nat_le, nat_lt, Bool, true, false, cond, ◌||◌, if◌then◌else◌, is_some, List, [], ◌∷◌, ◌++◌, map, length, Option, Some, None, refl, sym, ap, subst, ◌∙◌, append_assoc}
+use Rattle.std.proofs.Common.{◌≡◌, ℕ, ◌+◌, nat_le, nat_lt, Bool, true, false, ◌||◌, if◌then◌else◌, is_some, List, [], ◌∷◌, ◌++◌, map, length, Option, Some, None, refl, sym, ap, subst, ◌∙◌, append_assoc}
 use Rattle.std.specs.Str.{bytes_eq}
 use Rattle.epl_values.specs.declared.shape.EventShape.{EventShape}
 use Rattle.epl_tree.specs.declared.unit.Declaration.{Declaration}
@@ -12,13 +12,13 @@ use Rattle.typed_program.specs.declared.program.Program.{Program}
 use Rattle.type_table.specs.declared.gathered.Gathered.{Gathered}
 use Rattle.type_table.specs.declared.table.Table.{Table}
 use Rattle.type_table.specs.Found.{told}
-use Rattle.type_table.specs.Gathers.{numbers, with_event, with_monitor, event_faults, fields_faults, field_faults, declaration_faults, faults_from, gathered_after, units_faults, units_gathered, none_gathered, in_file, field_shape, event_shape, is_named, count_of}
+use Rattle.type_table.specs.Gathers.{numbers, with_event, with_monitor, event_faults, fields_faults, field_faults, declaration_faults, faults_from, gathered_after, units_faults, none_gathered, in_file, field_shape, event_shape, is_named, count_of}
 use Rattle.type_table.specs.Gathers.{when as cause}
 use Rattle.type_table.specs.Chains.{holds, contains_itself}
-use Rattle.type_table.specs.Kinds.{kinds_of, kinds_after, kind_step, with_kind, declarations_of, names_of}
+use Rattle.type_table.specs.Kinds.{kinds_of, kinds_after, kind_step, declarations_of, names_of}
 use Rattle.type_table.specs.Names.{has_name}
 use Rattle.type_table.specs.Table.{event_of}
-use Rattle.type_table.specs.Types.{type_by, type_found}
+use Rattle.type_table.specs.Types.{type_by}
 use Rattle.stmt_check.specs.Programs.{IsProgram}
 use Rattle.name_resolution.specs.Types.{TypeIs}
 use Rattle.name_resolution.specs.Resolves.{Resolves}

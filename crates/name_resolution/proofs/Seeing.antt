@@ -1,7 +1,6 @@
 -- Where names and actions, as they are known by number, are what the checker sees by them.
-use Rattle.std.specs.Prelude.{ℕ, ◌+◌, ◌≡◌, Bool, true, List, Option, Some}
+use Rattle.std.specs.Prelude.{ℕ, ◌+◌, ◌≡◌, true, List, Some}
 use Rattle.std.specs.Option.{option_map}
-use Rattle.typed_program.specs.declared.program.Site.{Site}
 use Rattle.typed_program.specs.declared.statement.Variable.{Variable}
 use Rattle.typed_program.specs.declared.statement.Variable.TheVariants as variable
 use Rattle.type_table.specs.declared.scope.Scope.{Scope}

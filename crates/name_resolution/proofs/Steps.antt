@@ -1,7 +1,6 @@
 -- Fields, elements and methods behind a value.
-use Rattle.std.proofs.Common.{◌≡◌, ℕ, zero, suc, min, Bool, true, false, List, [], ◌∷◌, ◌++◌, map, length, slice_get, Option, Some, None, refl, subst, sym, ap, ◌∙◌}
-use Rattle.std.specs.List.{AllByRecursion, position}
-use Rattle.std.specs.Str.{bytes_eq}
+use Rattle.std.proofs.Common.{◌≡◌, ℕ, zero, suc, min, Bool, false, List, [], ◌∷◌, ◌++◌, map, length, slice_get, Option, Some, None, refl, subst, sym, ap, ◌∙◌}
+use Rattle.std.specs.List.{AllByRecursion}
 use Rattle.span_text.specs.declared.spot.Spot.{Spot}
 use Rattle.epl_values.specs.declared.shape.EventShape.{EventShape}
 use Rattle.epl_values.specs.declared.shape.Field.{Field}
@@ -21,9 +20,7 @@ use Rattle.typed_program.specs.declared.expression.TypedSuffix.{TypedSuffix, Typ
 use Rattle.typed_program.specs.declared.expression.TypedSuffixNode.{TypedSuffixNode, out-TypedSuffixNode}
 use Rattle.typed_program.specs.declared.expression.TypedSuffixNode.TheVariants as suffix
 use Rattle.type_table.specs.declared.table.Table.{Table}
-use Rattle.type_table.specs.Found.{Found}
 use Rattle.expr_rules.specs.declared.calls.Arguments.{Arguments}
-use Rattle.expr_rules.specs.declared.methods.Called.{Called}
 use Rattle.expr_rules.specs.declared.methods.MethodCall.{MethodCall}
 use Rattle.expr_rules.specs.declared.methods.Reach.{Reach}
 use Rattle.expr_rules.specs.declared.placed.Judged.{Judged}
@@ -35,9 +32,9 @@ use Rattle.expr_rules.specs.Calls.{arguments_found, fields_at}
 use Rattle.expr_rules.specs.Methods.{method_named, signature_of, unknown_call, called_by, called_on, called_of, method_reach}
 use Rattle.expr_rules.specs.Operators.{Part}
 use Rattle.expr_rules.specs.Places.{placed, shape_given}
-use Rattle.expr_rules.specs.Postfix.{Step, demand_before, walk_start, walked, reached, field_reach, field_at, place_of, field_named, field_in, field_of, field_found, index_wish, element_reach_layer, element_reach, unknown_element, near, nearer, element_stands, element_step, index_found, method_stands, called_found, method_found, step_found, steps_found, postfix_of, walked_from, postfix_rest, postfix_found}
-use Rattle.expr_rules.specs.Then.{and_then, through}
-use Rattle.name_resolution.specs.Names.{Named, Around, held, written}
+use Rattle.expr_rules.specs.Postfix.{Step, demand_before, walk_start, walked, reached, field_reach, field_at, place_of, field_named, field_in, field_of, field_found, index_wish, element_reach_layer, element_reach, unknown_element, near, element_stands, element_step, index_found, method_stands, called_found, method_found, step_found, postfix_of, walked_from, postfix_rest, postfix_found}
+use Rattle.expr_rules.specs.Then.{through}
+use Rattle.name_resolution.specs.Names.{Named, Around, written}
 use Rattle.name_resolution.specs.Names.{field_named as numbered}
 use Rattle.name_resolution.specs.Expressions.{Form, TypedForm, TypedStep, form_of, step_of, typed_step, shape_of, ExprIs, ExprsAre, StepIs, StepsAre}
 use Rattle.name_resolution.specs.Expressions.{Step as StepForm}

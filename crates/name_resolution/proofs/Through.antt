@@ -1,5 +1,5 @@
 -- Lists that are read in order: each item is put behind those before it, and is what its tree asks.
-use Rattle.std.proofs.Common.{◌≡◌, ℕ, Bool, true, List, [], ◌∷◌, ◌++◌, map, refl, sym, ap, ◌∙◌}
+use Rattle.std.proofs.Common.{◌≡◌, List, [], ◌∷◌, ◌++◌, map, refl, sym, ap, ◌∙◌}
 use Rattle.std.specs.List.{AllByRecursion}
 use Rattle.type_table.specs.Found.{Found}
 use Rattle.expr_rules.specs.Then.{through}
