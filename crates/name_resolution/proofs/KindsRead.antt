@@ -19,7 +19,9 @@ use Rattle.type_table.specs.Kinds.{kinds_of, kinds_after, kind_step, declaration
 use Rattle.type_table.specs.Names.{has_name}
 use Rattle.type_table.specs.Table.{event_of}
 use Rattle.type_table.specs.Types.{type_by}
-use Rattle.stmt_check.specs.Programs.{IsProgram}
+use Rattle.type_table.specs.declared.fault.CheckFault.{CheckFault}
+use Rattle.std.specs.Prelude.{Result, Ok, Err, IfOk}
+use Rattle.stmt_check.specs.Programs.{IsProgram, Checks}
 use Rattle.name_resolution.specs.Types.{TypeIs}
 use Rattle.name_resolution.specs.Resolves.{Resolves}
 use Rattle.name_resolution.specs.Units.{declarations_in, events_in, FieldsAre, EventsAre}
@@ -163,3 +165,8 @@ program_resolves units program is =
       monitors = monitors.0;
       no_more = monitors.1;
     }
+
+-- an answer of the checker
+pub accepted_resolves : (units : List File) (r : Result Program CheckFault) → Checks r units → IfOk r (Resolves units)
+accepted_resolves units (Ok program) is = program_resolves units program is
+accepted_resolves units (Err fault) is = record {}
