@@ -1,12 +1,21 @@
 -- What the checker's definitions give for trees in which no fault is found is those trees with names resolved.
-use Rattle.std.proofs.Common.{◌≡◌, ◌∷◌, ◌++◌}
-use Rattle.name_resolution.proofs.Common.{ℕ, true, false, List, [], map, refl, sym, ap, subst, ◌∙◌, AllByRecursion, EventExpr, Expr, Site, Stmt, Scope, Table, Demand, typed_of, expr_found, term_found, State, bound_in, expr_names, event_names, row_read, Reads, Named, Around, ExprIs, Here, RowIs, Agrees, ActionsAgree, Fit, Matches, Ready, Fits, every, RowResolves}
+use Rattle.std.proofs.Common.{◌≡◌, ℕ, List, [], ◌∷◌, map, refl, sym, subst}
+use Rattle.std.specs.List.{AllByRecursion}
 use Rattle.epl_tree.specs.declared.statement.Stmt.{Stmt as Tree}
-use Rattle.expr_check.specs.Expressions.{part_of}
+use Rattle.typed_program.specs.declared.program.Site.{Site}
+use Rattle.typed_program.specs.declared.statement.Stmt.{Stmt}
+use Rattle.expr_check.specs.Expressions.{part_of, typed_of}
+use Rattle.stmt_check.specs.declared.state.State.{State}
+use Rattle.stmt_check.specs.Bodies.{bound_in}
 use Rattle.stmt_check.specs.Bodies.{Around as Body}
+use Rattle.stmt_check.specs.Captures.{event_names}
+use Rattle.stmt_check.specs.Statements.{row_read}
 use Rattle.stmt_check.specs.Statements.{part_of as stmt_part}
-use Rattle.stmt_check.specs.Steps.{each}
-use Rattle.name_resolution.specs.Laws.{ExpressionsResolve, EventResolves, EventsResolve, StatementsResolve}
+use Rattle.stmt_check.specs.Steps.{Reads, each}
+use Rattle.name_resolution.specs.Names.{Around}
+use Rattle.name_resolution.specs.Expressions.{ExprIs}
+use Rattle.name_resolution.specs.Statements.{Here, RowIs}
+use Rattle.name_resolution.proofs.Bodies.{Fit, Matches, Ready, Fits, every, ExpressionsResolve, EventsResolve, RowResolves, StatementsResolve}
 use Rattle.name_resolution.proofs.Sure.{sure_then, sure_sound}
 use Rattle.name_resolution.proofs.Judging.{plain_at}
 use Rattle.name_resolution.proofs.Trees.{expr_reads}

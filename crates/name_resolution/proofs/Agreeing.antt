@@ -1,10 +1,11 @@
 -- Where the names that a text names stand for what the checker sees by them.
-use Rattle.std.proofs.Common.{◌≡◌, ◌+◌, ◌∷◌}
-use Rattle.name_resolution.proofs.Common.{ℕ, Bool, true, List, [], Option, Some, map, AllByRecursion, option_map, or_left, or_right, Variable, Scope, Seen, SeenKind, ActionHead, Table, action_named, seen, Names, either, any_of, Named, Meant}
-use Rattle.typed_program.specs.declared.statement.Variable.TheVariants as variable
-use Rattle.type_table.specs.declared.scope.SeenKind.TheVariants as kind
-use Rattle.name_resolution.specs.Names.{meaning_of, place_of, held}
-pub use Rattle.name_resolution.specs.Agreeing.{variable_by, meant_by, Agrees, ActionIs, ActionsAgree}
+use Rattle.std.proofs.Common.{◌≡◌, ℕ, true, List, [], ◌∷◌, map}
+use Rattle.std.specs.List.{AllByRecursion}
+use Rattle.std.proofs.lemmas.Bool.{or_left, or_right}
+use Rattle.type_table.specs.declared.scope.Scope.{Scope}
+use Rattle.stmt_check.specs.Captures.{Names, either, any_of}
+use Rattle.name_resolution.specs.Names.{Named}
+pub use Rattle.name_resolution.proofs.Seeing.{variable_by, meant_by, Agrees, ActionIs, ActionsAgree}
 
 module _ (names : List Named) (scope : Scope) where
   pub agrees_fewer : (few more : Names) → ((name : List ℕ) → few name ≡ true → more name ≡ true) → Agrees names scope more → Agrees names scope few

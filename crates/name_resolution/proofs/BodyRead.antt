@@ -1,34 +1,61 @@
 -- Expressions, places, locals and blocks of a body.
-use Rattle.std.proofs.Common.{◌≡◌, ◌+◌, if◌then◌else◌, ◌∷◌, ◌++◌}
-use Rattle.name_resolution.proofs.Common.{ℕ, min, Bool, true, false, List, [], map, length, take, Option, Some, None, refl, sym, ap, subst, ◌∙◌, AllByRecursion, option_map, bytes_eq, bytes_eq-Decides, Spot, Shape, Expr, Suffix, Name, Place, TypedEntry, TypedExpr, TypedExpr-F, roll-TypedExpr, out-TypedExpr, out-roll-TypedExpr, TypedLink, TypedNode, out-TypedNode, TypedSuffix, TypedSuffixNode, Site, Variable, Scope, Seen, SeenKind, ActionHead, ParamHead, Found, Arguments, Judged, Walk, Demand, arguments_found, seen, outer_code, variable, root_of, name_found, known, judged, shape_given, Step, demand_before, walk_start, sound, Target, place_found, typed_of, expr_found, State, known_shape, local_read, scoped, Names, any_of, expr_names, suffix_names, place_names, reads, args_read, maybe_read, After, Reads, Named, Meant, Around, typed_form, shape_of, variable_form, ExprIs, ExprsAre, StepsAre, Here, shape_or_integer, leaving, PlaceIs, MaybeIs}
-use Rattle.epl_tree.specs.declared.expression.ExprNode.TheOpen as tree
+use Rattle.std.proofs.Common.{◌≡◌, ℕ, ◌+◌, true, false, List, [], ◌∷◌, ◌++◌, map, length, take, Option, Some, None, refl, sym, ap, subst, ◌∙◌}
+use Rattle.std.specs.List.{AllByRecursion}
+use Rattle.std.specs.Option.{option_map}
+use Rattle.std.specs.Str.{bytes_eq}
+use Rattle.std.proofs.lemmas.Slice.Eq.{bytes_eq-Decides}
+use Rattle.span_text.specs.declared.spot.Spot.{Spot}
+use Rattle.epl_values.specs.declared.shape.Shape.{Shape}
+use Rattle.epl_tree.specs.declared.expression.Expr.{Expr}
+use Rattle.epl_tree.specs.declared.expression.Suffix.{Suffix}
+use Rattle.epl_tree.specs.declared.name.Name.{Name}
+use Rattle.epl_tree.specs.declared.statement.Place.{Place}
+use Rattle.typed_program.specs.declared.expression.TypedEntry.{TypedEntry}
+use Rattle.typed_program.specs.declared.expression.TypedExpr.{TypedExpr, TypedExpr-F, roll-TypedExpr, out-TypedExpr, out-roll-TypedExpr}
+use Rattle.typed_program.specs.declared.expression.TypedLink.{TypedLink}
+use Rattle.typed_program.specs.declared.expression.TypedNode.{TypedNode, out-TypedNode}
+use Rattle.typed_program.specs.declared.expression.TypedSuffix.{TypedSuffix}
+use Rattle.typed_program.specs.declared.expression.TypedSuffixNode.{TypedSuffixNode}
+use Rattle.typed_program.specs.declared.program.Site.{Site}
+use Rattle.typed_program.specs.declared.statement.Variable.{Variable}
 use Rattle.typed_program.specs.declared.statement.Variable.TheVariants as var
-use Rattle.type_table.specs.Scopes.{with_seen, cut_to}
+use Rattle.type_table.specs.declared.scope.Seen.{Seen}
+use Rattle.type_table.specs.declared.scope.SeenKind.{SeenKind}
+use Rattle.type_table.specs.declared.table.ParamHead.{ParamHead}
+use Rattle.type_table.specs.Found.{Found}
+use Rattle.type_table.specs.Scopes.{with_seen}
 use Rattle.expr_rules.specs.declared.placed.Gives.TheVariants as gives
-use Rattle.expr_rules.specs.Asked.{assigned}
-use Rattle.expr_rules.specs.Calls.{no_arguments, call_paths, param_wants, items_of, typed_arguments}
-use Rattle.expr_rules.specs.Places.{placed}
-use Rattle.expr_rules.specs.Postfix.{leads, walked_from, walk_found}
-use Rattle.expr_rules.specs.Then.{and_then}
-use Rattle.expr_check.specs.Checks.{variable_layer, target_at, target_of, target}
-use Rattle.expr_check.specs.Expressions.{part_of, step_of}
-use Rattle.stmt_check.specs.Bodies.{local_codes, counted, name_read, seen_local, with_local, left, action_named}
+use Rattle.expr_rules.specs.declared.placed.Judged.{Judged}
+use Rattle.expr_rules.specs.declared.steps.Walk.{Walk}
+use Rattle.expr_rules.specs.Asked.{Demand, assigned}
+use Rattle.expr_rules.specs.Calls.{arguments_found, no_arguments, call_paths, param_wants, items_of, typed_arguments}
+use Rattle.expr_rules.specs.Names.{seen, outer_code, variable, root_of, name_found}
+use Rattle.expr_rules.specs.Places.{known, placed, judged, shape_given}
+use Rattle.expr_rules.specs.Postfix.{leads, demand_before, walk_start, walked_from, walk_found}
+use Rattle.expr_check.specs.declared.check.Target.{Target}
+use Rattle.expr_check.specs.Checks.{variable_layer, target_at, target_of, target, place_found}
+use Rattle.expr_check.specs.Expressions.{part_of, step_of, typed_of, expr_found}
+use Rattle.stmt_check.specs.declared.state.State.{State}
+use Rattle.stmt_check.specs.Bodies.{known_shape, counted, name_read, seen_local, with_local, local_read, left, scoped}
 use Rattle.stmt_check.specs.Bodies.{Around as Body}
-use Rattle.stmt_check.specs.Steps.{◌>>=◌, pure, looks, tells, changes, within, optional}
-use Rattle.name_resolution.specs.Names.{held, meaning_of}
-use Rattle.name_resolution.specs.Expressions.{form_of}
+use Rattle.stmt_check.specs.Captures.{Names, any_of, expr_names, suffix_names, place_names}
+use Rattle.stmt_check.specs.Statements.{reads, args_read, maybe_read}
+use Rattle.stmt_check.specs.Steps.{After, Reads, ◌>>=◌, pure, looks, tells, changes, within, optional}
+use Rattle.name_resolution.specs.Names.{Named, Meant, Around, held, meaning_of}
+use Rattle.name_resolution.specs.Expressions.{form_of, typed_form, shape_of, variable_form, ExprIs, ExprsAre, StepsAre}
+use Rattle.name_resolution.specs.Statements.{Here, shape_or_integer, leaving, PlaceIs, MaybeIs}
 use Rattle.name_resolution.specs.Statements.{with_local as local_more}
 use Rattle.name_resolution.specs.Statements as rule
-use Rattle.name_resolution.proofs.Sure.{Sure, sure_sound, sure_then, sure_as, no_both, no_told}
-use Rattle.name_resolution.proofs.Agreeing.{Agrees, ActionIs, ActionsAgree, variable_by, meant_by, agrees_fewer, agrees_left, agrees_right, agrees_first, agrees_rest, agrees_all}
+use Rattle.name_resolution.proofs.Sure.{Sure, sure_sound, sure_then, sure_as}
+use Rattle.name_resolution.proofs.Agreeing.{Agrees, ActionsAgree, variable_by, meant_by, agrees_fewer, agrees_left, agrees_right, agrees_first, agrees_rest, agrees_all}
 use Rattle.name_resolution.proofs.Judging.{Is, plain_at, placed_shape, placed_own}
 use Rattle.name_resolution.proofs.Judging.{Reads as PartReads}
 use Rattle.name_resolution.proofs.Values.{arguments_are, known_given, variable_is}
-use Rattle.name_resolution.proofs.Steps.{StepReads, Walked, walked_is, before_plain}
+use Rattle.name_resolution.proofs.Steps.{Walked, walked_is}
 use Rattle.name_resolution.proofs.Steps.{StepsRead}
 use Rattle.name_resolution.proofs.Trees.{expr_reads, step_reads}
-use Rattle.name_resolution.proofs.Claims.{is_called, first_by, by_seen, meaning_mapped, agrees_more, agrees_at, Grown, grown_same, extends_same, Matches, Ready, Fits, Holds, Claim, Still, claim_looks, claim_bind, claim_behind, claim_pure, claim_as}
-pub use Rattle.name_resolution.specs.Laws.{Fit}
+use Rattle.name_resolution.proofs.Claims.{by_seen, meaning_mapped, agrees_more, agrees_at, Grown, grown_same, extends_same, Matches, Ready, Claim, Still, claim_looks, claim_behind, claim_pure}
+pub use Rattle.name_resolution.proofs.Bodies.{Fit}
 
 -- the names of a part are among those that are known
 abbrev pub Within : Names → Names → Type 0

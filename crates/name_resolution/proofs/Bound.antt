@@ -1,12 +1,19 @@
 -- The names that an event expression binds stand behind those around it.
-use Rattle.std.proofs.Common.{◌≡◌, if◌then◌else◌, ◌∷◌, ◌++◌}
-use Rattle.name_resolution.proofs.Common.{ℕ, Bool, true, false, List, [], map, length, drop, Option, Some, None, is_some, refl, sym, ap, subst, ◌∙◌, append_assoc, AllByRecursion, EventExpr, EventExpr-F, map-EventExpr, roll-EventExpr, fold-roll-EventExpr, EventNode, EventNode-F, map-EventNode, roll-EventNode, fold-EventNode, fold-roll-EventNode, ind-EventExpr, TemplateClause, Scope, Seen, Table, inner_of}
+use Rattle.std.proofs.Common.{◌≡◌, ℕ, Bool, true, false, if◌then◌else◌, List, [], ◌∷◌, ◌++◌, map, length, drop, is_some, refl, sym, ap, subst, ◌∙◌, append_assoc}
+use Rattle.std.specs.List.{AllByRecursion}
 use Rattle.std.proofs.Math.Seq.{drop-append_seam}
+use Rattle.epl_tree.specs.declared.event.EventExpr.{EventExpr, EventExpr-F, map-EventExpr, roll-EventExpr, fold-roll-EventExpr}
+use Rattle.epl_tree.specs.declared.event.EventNode.{EventNode, EventNode-F, map-EventNode, roll-EventNode, fold-EventNode, fold-roll-EventNode}
 use Rattle.epl_tree.specs.declared.event.EventNode.TheOpen as event
+use Rattle.epl_tree.specs.declared.event.EventNode.TheFolds.{ind-EventExpr}
+use Rattle.epl_tree.specs.declared.event.TemplateClause.{TemplateClause}
 use Rattle.epl_tree.specs.declared.event.TemplateClause.TheVariants as clause
+use Rattle.type_table.specs.declared.scope.Scope.{Scope}
+use Rattle.type_table.specs.declared.scope.Seen.{Seen}
 use Rattle.type_table.specs.declared.scope.SeenKind.TheVariants as kind
+use Rattle.type_table.specs.declared.table.Table.{Table}
 use Rattle.type_table.specs.Table.{seen_of}
-use Rattle.listener_check.specs.Bound.{seen_bound, with_bound, clause_binds, clauses_bind, each, node_step, expr_step, binds}
+use Rattle.listener_check.specs.Bound.{seen_bound, clause_binds, clauses_bind, each, node_step, expr_step, binds, inner_of}
 use Rattle.name_resolution.proofs.Through.{append_none}
 
 -- a bound name

@@ -1,10 +1,9 @@
 -- The names that an event expression binds, as they are read, are those that stand behind the names around it, in the same order.
-use Rattle.std.proofs.Common.{◌≡◌, ℕ, suc, ◌+◌, ◌-◌, min, Bool, true, false, cond, ◌||◌, if◌then◌else◌, is_some, List, [], ◌∷◌, ◌++◌, map, length, drop, slice_get, Option, Some, None, refl, sym, ap, subst, ◌∙◌, arith, append_assoc}
-use Rattle.std.specs.List.{list_any, position, AllByRecursion}
-use Rattle.std.specs.Option.{option_map}
+use Rattle.std.proofs.Common.{◌≡◌, ℕ, suc, ◌+◌, ◌-◌, Bool, true, false, cond, ◌||◌, if◌then◌else◌, is_some, List, [], ◌∷◌, ◌++◌, map, length, drop, slice_get, Option, Some, None, refl, sym, ap, subst, ◌∙◌, arith, append_assoc}
+use Rattle.std.specs.List.{AllByRecursion}
 use Rattle.std.specs.Str.{bytes_eq}
 use Rattle.std.proofs.lemmas.Bool.{or_parts}
-use Rattle.std.proofs.lemmas.List.{length-append, length-map, append-nil}
+use Rattle.std.proofs.lemmas.List.{length-append}
 use Rattle.std.proofs.lemmas.Slice.Eq.{bytes_eq-Decides}
 use Rattle.span_text.specs.declared.spot.Spot.{Spot}
 use Rattle.epl_values.specs.declared.shape.Shape.{Shape}
@@ -24,11 +23,9 @@ use Rattle.epl_tree.specs.declared.event.TemplateClause.TheVariants as clause
 use Rattle.epl_tree.specs.declared.expression.Comparison.{Comparison}
 use Rattle.epl_tree.specs.declared.expression.Comparison.TheVariants as comparison
 use Rattle.epl_tree.specs.declared.expression.Expr.{Expr, out-Expr}
-use Rattle.epl_tree.specs.declared.name.Name.{Name}
 use Rattle.typed_program.specs.declared.expression.TypedExpr.{TypedExpr}
 use Rattle.typed_program.specs.declared.expression.TypedLink.{TypedLink}
 use Rattle.typed_program.specs.declared.expression.TypedNode.TheOpen as typed
-use Rattle.typed_program.specs.declared.statement.Variable.TheVariants as var
 use Rattle.typed_program.specs.declared.term.Constraint.{Constraint as Typed}
 use Rattle.typed_program.specs.declared.term.ConstraintNode.TheVariants as asked
 use Rattle.typed_program.specs.declared.term.Term.{Term}
@@ -50,16 +47,15 @@ use Rattle.listener_check.specs.Bound.{is_among, seen_bound, with_bound, clause_
 use Rattle.listener_check.specs.Constraints.{number_of, missing_code, field_codes, constraint_read, constraint_step, constraints_read, none_done, compares_read, lies_read, asked_read, placed_read, missing_read, found_read, numbered_read}
 use Rattle.listener_check.specs.Durations.{length_found, duration_read}
 use Rattle.listener_check.specs.Limits.{short, with_leaf, leaf_read, with_sum, sum_read}
-use Rattle.listener_check.specs.Operands.{Layer, placed, added_operand, links_operand, sum_layer, sum_operand, given_operand, operand_of, is_integer, named_operand, operand_read, path_in, last_of}
+use Rattle.listener_check.specs.Operands.{Layer, placed, added_operand, sum_layer, sum_operand, given_operand, operand_of, is_integer, named_operand, operand_read, path_in, last_of}
 use Rattle.listener_check.specs.Operands.{layer_of as typed_layer}
 use Rattle.listener_check.specs.Templates.{fields_of, is_taken, is_full, name_codes, with_name, name_read, no_clauses, clause_read, clauses_read, parts_read, typed_read, template_read}
-use Rattle.listener_check.specs.Terms.{Reading, Part, each_step, each, behind_step, each_behind, followed_behind, followed_read, joined_behind, or_read, xor_read, may_begin, and_read, not_read, not_codes, all_read, deadline_read, plain, negated, wait_read, ended_read, group_read, leaf_template_read, node_step, expr_step, part_of}
+use Rattle.listener_check.specs.Terms.{Part, each_step, each, behind_step, each_behind, followed_behind, followed_read, joined_behind, or_read, xor_read, may_begin, and_read, not_read, not_codes, all_read, deadline_read, wait_read, ended_read, group_read, leaf_template_read, node_step, expr_step, part_of}
 use Rattle.listener_check.specs.Values.{naming_of, named_value}
 use Rattle.listener_check.specs.Went.{Went, went, behind, given, through, ◌>>=◌}
-use Rattle.name_resolution.specs.Names.{Named, Meant, meaning_of}
 use Rattle.name_resolution.proofs.Sure.{no_both, no_told, no_if}
 use Rattle.name_resolution.proofs.Thus.{Thus, thus_went, thus_then, thus_behind, thus_weaker}
-use Rattle.name_resolution.proofs.Claims.{is_called, first_by, first_behind, seen_first, or_else, by_seen}
+use Rattle.name_resolution.proofs.Claims.{is_called, first_by, first_behind, or_else}
 use Rattle.name_resolution.proofs.Heads.{place_some}
 
 -- ---- parts that bind no name

@@ -1,17 +1,26 @@
 -- A listener: its site stands at its number, with its event expression and its callback.
-use Rattle.std.proofs.Common.{◌≡◌, ◌+◌, ◌<◌, ◌≤◌, ◌==◌, ◌&&◌, ◌||◌, if◌then◌else◌, ◌∷◌, ◌++◌}
-use Rattle.name_resolution.proofs.Common.{ℕ, zero, suc, min, nat_le, nat_lt, count_by, Bool, true, false, cond, not, List, [], map, length, drop, insert, Option, Some, None, refl, sym, ap, subst, ◌∙◌, slice_get, arith, AllByRecursion, list_any, option_map, bytes_eq, or_left, or_right, or_parts, nat_tests, length-insert, bytes_eq-Decides, Shape, Variable, Scope, Seen, SeenKind, State, known_shape, captured_in, callback_start, local_of, Names, bound_of, Named, Meant, Here, shape_or_integer, BoundAre}
-use Rattle.std.specs.List.{filter}
+use Rattle.std.proofs.Common.{◌≡◌, ℕ, zero, suc, ◌+◌, ◌<◌, ◌≤◌, ◌==◌, min, nat_lt, count_by, Bool, true, false, cond, ◌&&◌, ◌||◌, not, if◌then◌else◌, List, [], ◌∷◌, map, length, insert, Option, Some, None, refl, sym, ap, subst, ◌∙◌, slice_get, arith}
+use Rattle.std.specs.List.{AllByRecursion, list_any, filter}
+use Rattle.std.specs.Option.{option_map}
 use Rattle.std.specs.Prelude.{fold}
+use Rattle.std.specs.Str.{bytes_eq}
 use Rattle.std.proofs.lemmas.Bool.{eq-eqb}
 use Rattle.std.proofs.lemmas.List.{length-map}
+use Rattle.std.proofs.lemmas.Slice.Eq.{bytes_eq-Decides}
+use Rattle.epl_values.specs.declared.shape.Shape.{Shape}
 use Rattle.typed_program.specs.declared.program.Local.{Local}
+use Rattle.typed_program.specs.declared.statement.Variable.{Variable}
 use Rattle.typed_program.specs.declared.statement.Variable.TheVariants as var
+use Rattle.type_table.specs.declared.scope.Scope.{Scope}
+use Rattle.type_table.specs.declared.scope.Seen.{Seen}
+use Rattle.type_table.specs.declared.scope.SeenKind.{SeenKind}
 use Rattle.type_table.specs.declared.scope.SeenKind.TheVariants as kind
-use Rattle.stmt_check.specs.Bodies.{outer_kind, place_among, outer_seen, bound_seen, callback_scope, is_global}
+use Rattle.stmt_check.specs.declared.state.State.{State}
+use Rattle.stmt_check.specs.Bodies.{captured_in, outer_kind, place_among, outer_seen, bound_seen, callback_scope, callback_start, local_of, is_global}
+use Rattle.stmt_check.specs.Captures.{Names}
 use Rattle.listener_check.specs.Bound.{local_of as bound_local, local_shape}
-use Rattle.name_resolution.specs.Names.{held, meaning_of}
-use Rattle.name_resolution.specs.Statements.{is_captured, carry, carried, moved, moved_name}
+use Rattle.name_resolution.specs.Names.{Named, Meant, held, meaning_of}
+use Rattle.name_resolution.specs.Statements.{Here, shape_or_integer, is_captured, carry, carried, moved, moved_name, BoundAre}
 use Rattle.name_resolution.specs.Statements.{callback_start as starts}
 use Rattle.name_resolution.specs.Statements as rule
 use Rattle.name_resolution.proofs.Agreeing.{Agrees, variable_by, meant_by}

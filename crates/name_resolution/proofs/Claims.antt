@@ -1,13 +1,26 @@
 -- What holds of a part of a body that is read: names, sites and locals are only added, and where it has no fault it is what its tree
 -- asks, between what is visible before it and behind it.
-use Rattle.std.proofs.Common.{◌≡◌, ◌+◌, ◌<◌, ◌≤◌, if◌then◌else◌, ◌∷◌, ◌++◌}
-use Rattle.name_resolution.proofs.Common.{ℕ, suc, Bool, true, false, cond, List, [], map, length, take, Option, Some, None, is_some, refl, sym, ap, subst, ◌∙◌, slice_get, nat_lt, not, position, arith, append_assoc, insert, position_or_len, option_map, bytes_eq, nat_tests, append-nil, length-insert, Spot, Shape, Site, Scope, Seen, Found, told, seen, item_at, State, Names, After, Reads, Named, Meant, Here}
+use Rattle.std.proofs.Common.{◌≡◌, ℕ, suc, ◌+◌, ◌≤◌, Bool, true, false, cond, List, [], ◌∷◌, ◌++◌, map, length, Option, Some, None, refl, sym, ap, subst, ◌∙◌, slice_get, nat_lt, not, position, arith, append_assoc}
+use Rattle.std.specs.List.{position_or_len}
+use Rattle.std.specs.Option.{option_map}
+use Rattle.std.specs.Str.{bytes_eq}
 use Rattle.std.proofs.lemmas.Bool.{lt-ltb}
-use Rattle.stmt_check.specs.Steps.{done, ◌>>=◌, pure, given, looks, reads_by, tells, changes}
-use Rattle.name_resolution.specs.Names.{meaning_of}
+use Rattle.std.proofs.lemmas.Bool.Decides.{nat_tests}
+use Rattle.std.proofs.lemmas.List.{append-nil}
+use Rattle.span_text.specs.declared.spot.Spot.{Spot}
+use Rattle.typed_program.specs.declared.program.Site.{Site}
+use Rattle.type_table.specs.declared.scope.Scope.{Scope}
+use Rattle.type_table.specs.declared.scope.Seen.{Seen}
+use Rattle.type_table.specs.Found.{Found}
+use Rattle.expr_rules.specs.Names.{seen, item_at}
+use Rattle.stmt_check.specs.declared.state.State.{State}
+use Rattle.stmt_check.specs.Captures.{Names}
+use Rattle.stmt_check.specs.Steps.{After, Reads, done, ◌>>=◌, pure, given, looks, reads_by, tells}
+use Rattle.name_resolution.specs.Names.{Named, Meant, meaning_of}
+use Rattle.name_resolution.specs.Statements.{Here}
 use Rattle.name_resolution.proofs.Sure.{Sure, no_both, no_told}
 use Rattle.name_resolution.proofs.Agreeing.{Agrees, meant_by}
-pub use Rattle.name_resolution.specs.Laws.{Matches, Ready, Fits}
+pub use Rattle.name_resolution.proofs.Bodies.{Matches, Ready, Fits}
 
 -- ---- the first of a name
 

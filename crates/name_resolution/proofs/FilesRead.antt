@@ -1,25 +1,45 @@
 -- Monitors and files in order: each monitor of the program is its declaration with names resolved.
-use Rattle.std.proofs.Common.{◌≡◌, ◌+◌, ◌<◌, ◌≤◌, ◌∷◌, ◌++◌}
-use Rattle.name_resolution.proofs.Common.{ℕ, zero, suc, min, nat_le, Bool, true, false, not, List, [], map, length, Option, Some, None, refl, sym, ap, subst, ◌∙◌, slice_get, position, arith, append_assoc, codes, option_map, bytes_eq, leb-false, length-append, EventShape, Declaration, EventDecl, Member, MonitorDecl, Action, Global, Program, Site, Fault, Gathered, ActionHead, GlobalHead, MonitorHead, Table, told, numbers, with_event, with_monitor, declaration_faults, faults_from, gathered_after, units_faults, units_gathered, none_gathered, in_file, event_shape, actions_from, kinds_of, has_name, event_of, item_at, Made, short, members_read, IsProgram, Around, declarations_in, globals_in, actions_in, names_of, GlobalsAre}
+use Rattle.std.proofs.Common.{◌≡◌, ℕ, suc, ◌+◌, ◌<◌, ◌≤◌, nat_le, Bool, true, false, not, List, [], ◌∷◌, ◌++◌, map, length, Option, Some, None, refl, sym, ap, subst, ◌∙◌, slice_get, position, arith, append_assoc, codes}
+use Rattle.std.specs.Option.{option_map}
+use Rattle.std.specs.Str.{bytes_eq}
+use Rattle.std.proofs.lemmas.Bool.{leb-false}
+use Rattle.std.proofs.lemmas.List.{length-append}
+use Rattle.epl_values.specs.declared.shape.EventShape.{EventShape}
+use Rattle.epl_tree.specs.declared.unit.Declaration.{Declaration}
 use Rattle.epl_tree.specs.declared.unit.Declaration.TheVariants as declaration
+use Rattle.epl_tree.specs.declared.unit.EventDecl.{EventDecl}
+use Rattle.epl_tree.specs.declared.unit.Member.{Member}
 use Rattle.epl_tree.specs.declared.unit.Member.TheVariants as member
+use Rattle.epl_tree.specs.declared.unit.MonitorDecl.{MonitorDecl}
 use Rattle.epl_tree.specs.declared.unit.Unit.{Unit as File}
+use Rattle.typed_program.specs.declared.program.Action.{Action}
+use Rattle.typed_program.specs.declared.program.Global.{Global}
 use Rattle.typed_program.specs.declared.program.Monitor.{Monitor}
+use Rattle.typed_program.specs.declared.program.Program.{Program}
+use Rattle.typed_program.specs.declared.program.Site.{Site}
 use Rattle.type_table.specs.declared.fault.CheckFault.TheVariants as check
-use Rattle.type_table.specs.Gathers.{monitor_faults, IsTable}
+use Rattle.type_table.specs.declared.fault.Fault.{Fault}
+use Rattle.type_table.specs.declared.gathered.Gathered.{Gathered}
+use Rattle.type_table.specs.declared.table.ActionHead.{ActionHead}
+use Rattle.type_table.specs.declared.table.MonitorHead.{MonitorHead}
+use Rattle.type_table.specs.declared.table.Table.{Table}
+use Rattle.type_table.specs.Gathers.{numbers, with_event, with_monitor, monitor_faults, declaration_faults, faults_from, gathered_after, units_faults, units_gathered, none_gathered, in_file, event_shape, IsTable}
 use Rattle.type_table.specs.Gathers.{when as cause}
-use Rattle.type_table.specs.Heads.{monitor_head, has_onload}
+use Rattle.type_table.specs.Heads.{monitor_head, actions_from, has_onload}
 use Rattle.type_table.specs.Heads.{globals_in as heads_in}
-use Rattle.type_table.specs.Kinds.{names_of as kind_names}
-use Rattle.type_table.specs.Names.{number_in}
-use Rattle.stmt_check.specs.Bodies.{action_named}
-use Rattle.stmt_check.specs.Members.{monitor_of, monitor_read, action_number}
+use Rattle.type_table.specs.Kinds.{kinds_of, names_of as kind_names}
+use Rattle.type_table.specs.Names.{has_name, number_in}
+use Rattle.type_table.specs.Table.{event_of}
+use Rattle.expr_rules.specs.Names.{item_at}
+use Rattle.stmt_check.specs.declared.made.Made.{Made}
+use Rattle.stmt_check.specs.Bodies.{short, action_named}
+use Rattle.stmt_check.specs.Members.{members_read, monitor_of, monitor_read, action_number}
 use Rattle.stmt_check.specs.Members.{with_monitor as made_monitor, number_of as number_made, or_zero as zero_made}
-use Rattle.stmt_check.specs.Programs.{declarations_read, file_made, files_faults, files_made, nothing_made, made_of, program_of}
+use Rattle.stmt_check.specs.Programs.{declarations_read, file_made, files_faults, files_made, nothing_made, IsProgram}
 use Rattle.stmt_check.specs.Programs.{in_file as faults_in}
 use Rattle.stmt_check.specs.Steps.{◌>>=◌, pure, changes}
-use Rattle.name_resolution.specs.Names.{held, place_of}
-use Rattle.name_resolution.specs.Units.{monitors_in, number_of, or_zero, MonitorIs, MonitorsAre}
+use Rattle.name_resolution.specs.Names.{held}
+use Rattle.name_resolution.specs.Units.{declarations_in, monitors_in, globals_in, actions_in, names_of, number_of, or_zero, GlobalsAre, MonitorIs, MonitorsAre}
 use Rattle.name_resolution.specs.Units as rule
 use Rattle.name_resolution.proofs.Sure.{no_both, no_told}
 use Rattle.name_resolution.proofs.Through.{append_none}

@@ -1,13 +1,26 @@
 -- What the table tells of a monitor is what its declaration is, and where the body of one of its actions begins.
-use Rattle.std.proofs.Common.{◌≡◌, ◌+◌, ◌<◌, ◌≤◌, if◌then◌else◌, ◌∷◌, ◌++◌}
-use Rattle.name_resolution.proofs.Common.{ℕ, zero, suc, min, Bool, true, false, cond, not, is_some, List, [], map, length, Option, Some, None, refl, sym, ap, subst, ◌∙◌, slice_get, nat_lt, position, arith, position_or_len, option_map, bytes_eq, bytes_eq-Decides, Shape, TypeExpr, ActionDecl, GlobalDecl, Member, Param, Global, Scope, Seen, ActionHead, GlobalHead, MonitorHead, ParamHead, global_head, param_head, actions_from, globals_after, params_from, item_at, Named, Meant, meant_by, actions_in, names_of, global_names, param_names}
+use Rattle.std.proofs.Common.{◌≡◌, ℕ, suc, ◌+◌, Bool, true, false, cond, if◌then◌else◌, not, is_some, List, [], ◌∷◌, ◌++◌, map, length, Option, Some, None, refl, sym, ap, subst, ◌∙◌, nat_lt, position, arith}
+use Rattle.std.specs.List.{position_or_len}
+use Rattle.std.specs.Option.{option_map}
+use Rattle.std.specs.Str.{bytes_eq}
+use Rattle.std.proofs.lemmas.Slice.Eq.{bytes_eq-Decides}
+use Rattle.epl_values.specs.declared.shape.Shape.{Shape}
+use Rattle.epl_tree.specs.declared.unit.ActionDecl.{ActionDecl}
+use Rattle.epl_tree.specs.declared.unit.Member.{Member}
 use Rattle.epl_tree.specs.declared.unit.Member.TheVariants as member
+use Rattle.epl_tree.specs.declared.unit.Param.{Param}
+use Rattle.typed_program.specs.declared.program.Global.{Global}
 use Rattle.typed_program.specs.declared.statement.Variable.TheVariants as var
-use Rattle.type_table.specs.Heads.{action_head}
-use Rattle.type_table.specs.Heads.{globals_in as heads_in}
-use Rattle.type_table.specs.Scopes.{global_seen, param_seen, place_in, with_global}
-use Rattle.name_resolution.specs.Names.{meaning_of, place_of, held}
-use Rattle.name_resolution.specs.Agreeing.{ActionIs}
+use Rattle.type_table.specs.declared.scope.Seen.{Seen}
+use Rattle.type_table.specs.declared.table.ActionHead.{ActionHead}
+use Rattle.type_table.specs.declared.table.GlobalHead.{GlobalHead}
+use Rattle.type_table.specs.declared.table.ParamHead.{ParamHead}
+use Rattle.type_table.specs.Heads.{action_head, actions_from}
+use Rattle.type_table.specs.Scopes.{global_seen, place_in, with_global, globals_after, params_from}
+use Rattle.expr_rules.specs.Names.{item_at}
+use Rattle.name_resolution.specs.Names.{Named, Meant, meaning_of, place_of, held}
+use Rattle.name_resolution.proofs.Seeing.{ActionIs, meant_by}
+use Rattle.name_resolution.specs.Units.{actions_in, names_of, global_names, param_names}
 use Rattle.name_resolution.proofs.Claims.{is_called, first_by, by_seen, meaning_mapped, meaning_behind, or_else, item_first, zero_lt, lt_more}
 
 -- ---- the place of the first

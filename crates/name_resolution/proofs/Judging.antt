@@ -1,15 +1,28 @@
 -- What an expression at its place is: the expression with its names resolved, or right behind a minus the literal with its sign.
-use Rattle.std.proofs.Common.{◌≡◌, ◌+◌, ◌-◌, ◌*◌, if◌then◌else◌, ◌∷◌, ◌++◌}
-use Rattle.name_resolution.proofs.Common.{ℕ, pos, neg_ℤ, Bool, true, false, List, [], Option, Some, None, refl, subst, sym, ap, ◌∙◌, Spot, Shape, Expr, TypedExpr, TypedExpr-F, roll-TypedExpr, out-TypedExpr, out-roll-TypedExpr, TypedNode, out-TypedNode, TypedSuffix, TypedSuffixNode, TypedLink, TypedEntry, Found, Gives, Root, Judged, Demand, Part, judged, shape_given, sound, codes_of, Named, Around, Form, TypedForm, typed_form, shape_of, ExprIs, FormIs, NodeIs}
+use Rattle.std.proofs.Common.{◌≡◌, ℕ, pos, neg_ℤ, Bool, true, false, List, ◌++◌, Option, Some, None, refl, subst, sym}
+use Rattle.span_text.specs.declared.spot.Spot.{Spot}
+use Rattle.epl_values.specs.declared.shape.Shape.{Shape}
+use Rattle.epl_tree.specs.declared.expression.Expr.{Expr}
 use Rattle.epl_tree.specs.declared.expression.ExprNode.TheOpen as tree
+use Rattle.typed_program.specs.declared.expression.TypedExpr.{TypedExpr, TypedExpr-F, roll-TypedExpr, out-roll-TypedExpr}
+use Rattle.typed_program.specs.declared.expression.TypedNode.{TypedNode, out-TypedNode}
 use Rattle.typed_program.specs.declared.expression.TypedNode.TheOpen as typed
+use Rattle.typed_program.specs.declared.expression.TypedSuffix.{TypedSuffix}
+use Rattle.typed_program.specs.declared.expression.TypedSuffixNode.{TypedSuffixNode}
+use Rattle.typed_program.specs.declared.expression.TypedLink.{TypedLink}
+use Rattle.typed_program.specs.declared.expression.TypedEntry.{TypedEntry}
 use Rattle.expr_rules.specs.declared.operators.Sort.{Sort}
-use Rattle.expr_rules.specs.Operators.{operated, given_by}
-use Rattle.expr_rules.specs.Places.{placed, stands, place_codes}
-use Rattle.expr_rules.specs.Then.{and_then}
-use Rattle.name_resolution.specs.Expressions.{form_of, number}
+use Rattle.expr_rules.specs.declared.placed.Gives.{Gives}
+use Rattle.expr_rules.specs.declared.placed.Root.{Root}
+use Rattle.expr_rules.specs.declared.placed.Judged.{Judged}
+use Rattle.expr_rules.specs.Asked.{Demand}
+use Rattle.expr_rules.specs.Operators.{Part, operated, given_by}
+use Rattle.expr_rules.specs.Places.{placed, stands, judged, place_codes, shape_given}
+use Rattle.expr_rules.specs.Then.{codes_of}
+use Rattle.name_resolution.specs.Names.{Named, Around}
+use Rattle.name_resolution.specs.Expressions.{Form, TypedForm, form_of, typed_form, shape_of, number, ExprIs, FormIs, NodeIs}
 use Rattle.name_resolution.specs.Expressions as rule
-use Rattle.name_resolution.proofs.Sure.{Sure, sure_sound, sure_node, sure_then, sure_any, sure_as, no_both, own_none}
+use Rattle.name_resolution.proofs.Sure.{Sure, sure_sound, sure_node, sure_then, sure_as, no_both, own_none}
 
 -- a node's own code is none
 pub placed_own : (spot : Spot) (demand : Demand) (own : Option ℕ) (root : Option Root) (g : Gives) → Sure (λ s. own ≡ None) (placed spot demand own root g)

@@ -1,15 +1,30 @@
 -- Event types: where no fault is found each is declared once, and its fields have their types.
-use Rattle.std.proofs.Common.{◌≡◌, ◌+◌, ◌||◌, if◌then◌else◌, ◌∷◌, ◌++◌}
-use Rattle.name_resolution.proofs.Common.{ℕ, nat_le, nat_lt, Bool, true, false, cond, is_some, List, [], map, length, Option, Some, None, refl, sym, ap, subst, ◌∙◌, append_assoc, bytes_eq, EventShape, Declaration, EventDecl, MonitorDecl, Program, Gathered, Table, told, numbers, with_event, with_monitor, declaration_faults, faults_from, gathered_after, units_faults, units_gathered, none_gathered, in_file, event_shape, kinds_of, has_name, event_of, type_by, type_found, IsProgram, TypeIs, declarations_in}
+use Rattle.std.proofs.Common.{◌≡◌, ℕ, ◌+◌, nat_le, nat_lt, Bool, true, false, ◌||◌, if◌then◌else◌, is_some, List, [], ◌∷◌, ◌++◌, map, length, Option, Some, None, refl, sym, ap, subst, ◌∙◌, append_assoc}
+use Rattle.std.specs.Str.{bytes_eq}
+use Rattle.epl_values.specs.declared.shape.EventShape.{EventShape}
+use Rattle.epl_tree.specs.declared.unit.Declaration.{Declaration}
 use Rattle.epl_tree.specs.declared.unit.Declaration.TheVariants as declaration
+use Rattle.epl_tree.specs.declared.unit.EventDecl.{EventDecl}
 use Rattle.epl_tree.specs.declared.unit.FieldDecl.{FieldDecl}
+use Rattle.epl_tree.specs.declared.unit.MonitorDecl.{MonitorDecl}
 use Rattle.epl_tree.specs.declared.unit.Unit.{Unit as File}
-use Rattle.type_table.specs.Gathers.{event_faults, fields_faults, field_faults, field_shape, is_named, count_of}
+use Rattle.typed_program.specs.declared.program.Program.{Program}
+use Rattle.type_table.specs.declared.gathered.Gathered.{Gathered}
+use Rattle.type_table.specs.declared.table.Table.{Table}
+use Rattle.type_table.specs.Found.{told}
+use Rattle.type_table.specs.Gathers.{numbers, with_event, with_monitor, event_faults, fields_faults, field_faults, declaration_faults, faults_from, gathered_after, units_faults, none_gathered, in_file, field_shape, event_shape, is_named, count_of}
 use Rattle.type_table.specs.Gathers.{when as cause}
 use Rattle.type_table.specs.Chains.{holds, contains_itself}
-use Rattle.type_table.specs.Kinds.{kinds_after, kind_step, with_kind, declarations_of, names_of}
+use Rattle.type_table.specs.Kinds.{kinds_of, kinds_after, kind_step, declarations_of, names_of}
+use Rattle.type_table.specs.Names.{has_name}
+use Rattle.type_table.specs.Table.{event_of}
+use Rattle.type_table.specs.Types.{type_by}
+use Rattle.type_table.specs.declared.fault.CheckFault.{CheckFault}
+use Rattle.std.specs.Prelude.{Result, Ok, Err, IfOk}
+use Rattle.stmt_check.specs.Programs.{IsProgram, Checks}
+use Rattle.name_resolution.specs.Types.{TypeIs}
 use Rattle.name_resolution.specs.Resolves.{Resolves}
-use Rattle.name_resolution.specs.Units.{events_in, FieldsAre, EventsAre}
+use Rattle.name_resolution.specs.Units.{declarations_in, events_in, FieldsAre, EventsAre}
 use Rattle.name_resolution.specs.Units as rule
 use Rattle.name_resolution.proofs.Sure.{no_both, no_told}
 use Rattle.name_resolution.proofs.Through.{append_none, regroup}
@@ -150,3 +165,8 @@ program_resolves units program is =
       monitors = monitors.0;
       no_more = monitors.1;
     }
+
+-- an answer of the checker
+pub accepted_resolves : (units : List File) (r : Result Program CheckFault) → Checks r units → IfOk r (Resolves units)
+accepted_resolves units (Ok program) is = program_resolves units program is
+accepted_resolves units (Err fault) is = record {}

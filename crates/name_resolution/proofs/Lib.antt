@@ -1,4 +1,5 @@
-mod Common
+pub mod Seeing
+pub mod Bodies
 pub mod Sure
 pub mod Through
 pub mod Agreeing

@@ -1,29 +1,64 @@
 -- The members of a monitor in order: its globals and its actions are their declarations with names resolved.
-use Rattle.std.proofs.Common.{◌≡◌, ◌+◌, ◌<◌, ◌≤◌, ◌||◌, ◌&&◌, ◌==◌, if◌then◌else◌, ◌∷◌, ◌++◌}
-use Rattle.name_resolution.proofs.Common.{ℕ, zero, suc, min, nat_le, count_by, Bool, true, false, cond, not, is_some, List, [], map, length, Option, Some, None, refl, sym, ap, subst, ◌∙◌, slice_get, position, arith, append_assoc, codes, AllByRecursion, option_map, bytes_eq, or_parts, leb-false, length-append, append-nil, EventShape, Shape, Expr, TypeExpr, ActionDecl, GlobalDecl, Member, Param, TypedExpr, Action, Global, Program, Site, Stmt, Fault, Scope, Seen, ActionHead, GlobalHead, MonitorHead, ParamHead, Table, Found, told, global_head, param_head, actions_from, globals_after, params_from, event_of, type_by, type_found, action_named, seen, item_at, expr_found, Made, State, short, when, members_read, exactly, row_read, After, Reads, Named, Around, TypeIs, ExprIs, Agrees, ActionsAgree, meant_by, Here, MaybeIs, RowIs, Fit, Matches, Ready, Fits, every, RowResolves, globals_in, actions_in, names_of, global_names, param_names, GlobalsAre}
+use Rattle.std.proofs.Common.{◌≡◌, ℕ, zero, suc, ◌+◌, ◌<◌, ◌≤◌, nat_le, Bool, true, cond, ◌||◌, ◌&&◌, not, ◌==◌, if◌then◌else◌, is_some, List, [], ◌∷◌, ◌++◌, map, length, Option, Some, None, refl, sym, ap, subst, ◌∙◌, slice_get, position, arith, codes}
+use Rattle.std.specs.Option.{option_map}
+use Rattle.std.specs.Str.{bytes_eq}
+use Rattle.std.proofs.lemmas.Bool.{or_parts, leb-false}
+use Rattle.std.proofs.lemmas.List.{length-append}
 use Rattle.std.proofs.lemmas.List.Sums.{sum_by-append}
+use Rattle.epl_values.specs.declared.shape.EventShape.{EventShape}
+use Rattle.epl_values.specs.declared.shape.Shape.{Shape}
+use Rattle.epl_tree.specs.declared.expression.Expr.{Expr}
+use Rattle.epl_tree.specs.declared.types.TypeExpr.{TypeExpr}
+use Rattle.epl_tree.specs.declared.unit.ActionDecl.{ActionDecl}
+use Rattle.epl_tree.specs.declared.unit.GlobalDecl.{GlobalDecl}
+use Rattle.epl_tree.specs.declared.unit.Member.{Member}
 use Rattle.epl_tree.specs.declared.unit.Member.TheVariants as member
-use Rattle.type_table.specs.Heads.{action_head}
+use Rattle.epl_tree.specs.declared.unit.Param.{Param}
+use Rattle.typed_program.specs.declared.expression.TypedExpr.{TypedExpr}
+use Rattle.typed_program.specs.declared.program.Action.{Action}
+use Rattle.typed_program.specs.declared.program.Global.{Global}
+use Rattle.typed_program.specs.declared.program.Program.{Program}
+use Rattle.typed_program.specs.declared.program.Site.{Site}
+use Rattle.typed_program.specs.declared.statement.Stmt.{Stmt}
+use Rattle.type_table.specs.declared.fault.Fault.{Fault}
+use Rattle.type_table.specs.declared.scope.Scope.{Scope}
+use Rattle.type_table.specs.declared.scope.Seen.{Seen}
+use Rattle.type_table.specs.declared.table.ActionHead.{ActionHead}
+use Rattle.type_table.specs.declared.table.GlobalHead.{GlobalHead}
+use Rattle.type_table.specs.declared.table.MonitorHead.{MonitorHead}
+use Rattle.type_table.specs.declared.table.Table.{Table}
+use Rattle.type_table.specs.Found.{Found, told}
+use Rattle.type_table.specs.Heads.{param_head, action_head, actions_from}
 use Rattle.type_table.specs.Heads.{globals_in as heads_in}
-use Rattle.type_table.specs.Scopes.{start_of, start_names, action_names}
-use Rattle.type_table.specs.Types.{known, known_shape}
+use Rattle.type_table.specs.Scopes.{start_of, start_names, action_names, globals_after, params_from}
+use Rattle.type_table.specs.Table.{event_of}
+use Rattle.type_table.specs.Types.{type_by, type_found, known, known_shape}
+use Rattle.expr_rules.specs.Calls.{action_named}
 use Rattle.expr_rules.specs.Calls.{action_in as head_in}
+use Rattle.expr_rules.specs.Names.{item_at}
+use Rattle.expr_check.specs.Expressions.{expr_found}
+use Rattle.stmt_check.specs.declared.made.Made.{Made}
+use Rattle.stmt_check.specs.declared.state.State.{State}
 use Rattle.stmt_check.specs.Actions.{is_global, actions_before, param_codes, param_read, params_found, action_codes, body_around, body_start, action_of, body_read, action_read, member_codes}
-use Rattle.stmt_check.specs.Bodies.{is_special}
-use Rattle.stmt_check.specs.Bodies.{Around as Body, action_named as spawned_named, action_in as spawned_in}
+use Rattle.stmt_check.specs.Bodies.{short, when, is_special}
+use Rattle.stmt_check.specs.Bodies.{action_named as spawned_named, action_in as spawned_in}
 use Rattle.stmt_check.specs.Endings.{ends_with_return}
-use Rattle.stmt_check.specs.Members.{global_codes, initial_read, global_read, with_global}
-use Rattle.stmt_check.specs.Statements.{part_of}
-use Rattle.stmt_check.specs.Steps.{◌>>=◌, pure, given, looks, reads_by, tells, changes, within, each, before_all, optional}
-use Rattle.name_resolution.specs.Names.{meaning_of, held}
-use Rattle.name_resolution.specs.Agreeing.{ActionIs as HeadIs}
+use Rattle.stmt_check.specs.Members.{global_codes, initial_read, global_read, members_read, with_global}
+use Rattle.stmt_check.specs.Statements.{exactly, row_read, part_of}
+use Rattle.stmt_check.specs.Steps.{After, Reads, ◌>>=◌, pure, given, looks, reads_by, tells, changes, within, each, before_all, optional}
+use Rattle.name_resolution.specs.Names.{Around, held}
+use Rattle.name_resolution.specs.Types.{TypeIs}
+use Rattle.name_resolution.specs.Expressions.{ExprIs}
+use Rattle.name_resolution.proofs.Seeing.{ActionsAgree, meant_by}
+use Rattle.name_resolution.specs.Statements.{Here, MaybeIs, RowIs}
 use Rattle.name_resolution.specs.Statements as stmts
-use Rattle.name_resolution.specs.Units.{ParamsAre, ResultIs, ActionIs, ActionsAre, GlobalIs}
+use Rattle.name_resolution.proofs.Bodies.{Fit, Matches, every}
+use Rattle.name_resolution.specs.Units.{globals_in, actions_in, names_of, global_names, param_names, ParamsAre, ResultIs, ActionIs, ActionsAre, GlobalIs, GlobalsAre}
 use Rattle.name_resolution.specs.Units as rule
 use Rattle.name_resolution.proofs.Sure.{no_both, no_told}
 use Rattle.name_resolution.proofs.Through.{regroup, append_none}
 use Rattle.name_resolution.proofs.TypesRead.{type_sure}
-use Rattle.name_resolution.proofs.Claims.{is_called, first_by, seen_first, Grown, grown_same, grown_on, Extends, extends_same, extends_on, Claim}
+use Rattle.name_resolution.proofs.Claims.{is_called, first_by, seen_first, Extends, extends_same, extends_on}
 use Rattle.name_resolution.proofs.Heads.{Heads, Shaped, start_means, action_is, none_some}
 use Rattle.name_resolution.proofs.Accepted.{expressions, row_resolves, row_claim}
 use Rattle.name_resolution.proofs.StatementsRead.{no_when}

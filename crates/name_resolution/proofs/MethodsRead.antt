@@ -1,10 +1,16 @@
 -- A method that a type has is the one of its name.
-use Rattle.std.proofs.Common.{◌≡◌, ◌∷◌, if◌then◌else◌}
-use Rattle.name_resolution.proofs.Common.{ℕ, Bool, true, false, List, [], Option, Some, None, refl, subst, sym, ap, ◌∙◌, codes, AllByRecursion, written, bytes_eq, bytes_eq-Decides, Shape, Shape-F, out-Shape, Method, MethodCall}
+use Rattle.std.proofs.Common.{◌≡◌, ℕ, Bool, true, false, List, [], ◌∷◌, Option, Some, None, refl, ap, ◌∙◌, if◌then◌else◌, codes}
+use Rattle.std.specs.List.{AllByRecursion}
+use Rattle.name_resolution.specs.Names.{written}
+use Rattle.std.specs.Str.{bytes_eq}
+use Rattle.std.proofs.lemmas.Slice.Eq.{bytes_eq-Decides}
+use Rattle.epl_values.specs.declared.shape.Shape.{Shape, Shape-F, out-Shape}
 use Rattle.epl_values.specs.declared.shape.Shape.TheVariants as shape
 use Rattle.epl_values.specs.declared.shape.Shape.TheOpen as layer
+use Rattle.typed_program.specs.declared.expression.Method.{Method}
 use Rattle.typed_program.specs.declared.expression.Method.TheVariants as method
 use Rattle.typed_program.specs.Shapes.{is_scalar, holds_link}
+use Rattle.expr_rules.specs.declared.methods.MethodCall.{MethodCall}
 use Rattle.expr_rules.specs.Methods.{named_before, later_names, later_named, method_named, text_row, place_row, plain_methods, text_methods, sequence_methods, dictionary_methods, event_methods, listener_methods, methods_of, signature_of}
 
 -- a call of this method, without arguments yet, if it is one

@@ -1,11 +1,24 @@
 -- Operators, chains of them and literals.
-use Rattle.std.proofs.Common.{◌≡◌, ◌+◌, ◌-◌, ◌*◌, if◌then◌else◌, ◌∷◌, ◌++◌}
-use Rattle.name_resolution.proofs.Common.{ℕ, pos, neg_ℤ, nat_le, Bool, true, false, List, [], map, Option, Some, None, refl, subst, sym, ap, ◌∙◌, AllByRecursion, Spot, Shape, Comparison, Expr, Link, out-Link, TypeExpr, TypedExpr, TypedExpr-F, roll-TypedExpr, out-TypedExpr, out-roll-TypedExpr, TypedLink, out-TypedLink, TypedNode, out-TypedNode, TypedSuffix, TypedSuffixNode, TypedEntry, Table, Found, type_found, Judged, Demand, Part, Linked, judged, sound, codes_of, Named, Around, TypeIs, Form, TypedForm, typed_form, shape_of, number_behind, ExprIs, FormIs, NodeIs, ExprsAre}
+use Rattle.std.proofs.Common.{◌≡◌, ℕ, ◌+◌, ◌-◌, ◌*◌, pos, neg_ℤ, nat_le, Bool, true, false, if◌then◌else◌, List, [], ◌∷◌, ◌++◌, map, Option, Some, None, refl, subst, sym, ap, ◌∙◌}
+use Rattle.std.specs.List.{AllByRecursion}
+use Rattle.span_text.specs.declared.spot.Spot.{Spot}
+use Rattle.epl_values.specs.declared.shape.Shape.{Shape}
 use Rattle.epl_values.specs.declared.shape.Shape.TheVariants as shape
+use Rattle.epl_tree.specs.declared.expression.Comparison.{Comparison}
+use Rattle.epl_tree.specs.declared.expression.Expr.{Expr}
 use Rattle.epl_tree.specs.declared.expression.ExprNode.TheOpen as tree
-use Rattle.typed_program.specs.declared.expression.TypedLink.{TypedLink-F, roll-TypedLink, out-roll-TypedLink}
+use Rattle.epl_tree.specs.declared.expression.Link.{Link, out-Link}
+use Rattle.epl_tree.specs.declared.types.TypeExpr.{TypeExpr}
+use Rattle.typed_program.specs.declared.expression.TypedExpr.{TypedExpr, TypedExpr-F, roll-TypedExpr, out-TypedExpr, out-roll-TypedExpr}
+use Rattle.typed_program.specs.declared.expression.TypedLink.{TypedLink, TypedLink-F, roll-TypedLink, out-TypedLink, out-roll-TypedLink}
+use Rattle.typed_program.specs.declared.expression.TypedNode.{TypedNode, out-TypedNode}
 use Rattle.typed_program.specs.declared.expression.TypedNode.TheOpen as typed
 use Rattle.typed_program.specs.declared.expression.TypedNode.TheVariants as made
+use Rattle.typed_program.specs.declared.expression.TypedSuffix.{TypedSuffix}
+use Rattle.typed_program.specs.declared.expression.TypedSuffixNode.{TypedSuffixNode}
+use Rattle.typed_program.specs.declared.expression.TypedEntry.{TypedEntry}
+use Rattle.type_table.specs.declared.table.Table.{Table}
+use Rattle.type_table.specs.Types.{type_found}
 use Rattle.expr_rules.specs.declared.operators.Chain.{Chain}
 use Rattle.expr_rules.specs.declared.operators.LinkChain.{LinkChain}
 use Rattle.expr_rules.specs.declared.operators.Level.{Level}
@@ -13,17 +26,20 @@ use Rattle.expr_rules.specs.declared.operators.Level.TheVariants as level
 use Rattle.expr_rules.specs.declared.operators.Logic.{Logic}
 use Rattle.expr_rules.specs.declared.operators.Logic.TheVariants as logic
 use Rattle.expr_rules.specs.declared.placed.Gives.TheVariants as gives
-use Rattle.expr_rules.specs.Asked.{operand, negated, inside}
-use Rattle.expr_rules.specs.Literals.{number_from, number_of, greatest, within, integer_value, literal, literal_stands, integer_stands, integer_found, new_stands, text_stands, boolean_stands, current_stands}
-use Rattle.expr_rules.specs.Operators.{sort_of_expr, truth, number, addable, compared, linked, truths, paired, not_of, not_found, minus_node, minus_of, minus_found, comparison_of, comparison_right, comparison_found, with_operand, joined, join_found, logic_node, chain_of, chain_start, logic_rest, logic_found, with_link, link_of, link_found, level_node, links_of, links_start, links_rest, links_found}
-use Rattle.expr_rules.specs.Places.{placed, group_of, astray_code}
-use Rattle.expr_rules.specs.Then.{and_then, through}
-use Rattle.name_resolution.specs.Expressions.{form_of, LinksAre}
+use Rattle.expr_rules.specs.declared.placed.Judged.{Judged}
+use Rattle.expr_rules.specs.Asked.{Demand, operand, negated, inside}
+use Rattle.expr_rules.specs.Literals.{number_from, number_of, greatest, integer_value, literal, integer_stands, integer_found, new_stands, text_stands, boolean_stands, current_stands}
+use Rattle.expr_rules.specs.Operators.{Part, Linked, sort_of_expr, truth, number, addable, compared, linked, truths, paired, not_of, not_found, minus_node, minus_of, minus_found, comparison_of, comparison_right, comparison_found, with_operand, joined, join_found, logic_node, chain_of, chain_start, logic_rest, logic_found, with_link, link_of, link_found, level_node, links_of, links_start, links_rest, links_found}
+use Rattle.expr_rules.specs.Places.{placed, judged, group_of, astray_code}
+use Rattle.expr_rules.specs.Then.{and_then, through, codes_of}
+use Rattle.name_resolution.specs.Names.{Named, Around}
+use Rattle.name_resolution.specs.Types.{TypeIs}
+use Rattle.name_resolution.specs.Expressions.{Form, TypedForm, form_of, typed_form, shape_of, number_behind, ExprIs, FormIs, NodeIs, ExprsAre, LinksAre}
 use Rattle.name_resolution.specs.Expressions.{number as decimal}
 use Rattle.name_resolution.specs.Expressions as rule
-use Rattle.name_resolution.proofs.Sure.{Sure, sure_sound, sure_node, sure_then, sure_any, sure_as}
+use Rattle.name_resolution.proofs.Sure.{Sure, sure_sound, sure_node, sure_then, sure_any}
 use Rattle.name_resolution.proofs.Through.{Along, One, More, all_as, through_more}
-use Rattle.name_resolution.proofs.Judging.{placed_own, placed_shape, Negative, Judges, Reads, Is, plain_at, form_made, judges, stands_is, operated_is}
+use Rattle.name_resolution.proofs.Judging.{placed_own, placed_shape, Judges, Reads, Is, plain_at, form_made, judges, stands_is, operated_is}
 
 module _ (around : Around) (names : List Named) where
   abbrev R : Form → Part → Type 0

@@ -1,11 +1,11 @@
 -- What is evaluated at an `on`, durations and operands.
-use Rattle.std.proofs.Common.{◌≡◌, ℕ, zero, suc, ◌+◌, ◌-◌, ◌*◌, ◌==◌, ◌<◌, ◌≤◌, pos, min, nat_le, Bool, true, false, ◌&&◌, not, if◌then◌else◌, List, [], ◌∷◌, ◌++◌, map, length, take, drop, slice_get, Option, Some, None, refl, subst, sym, ap, ◌∙◌, arith, append_assoc}
+use Rattle.std.proofs.Common.{◌≡◌, ℕ, ◌+◌, ◌-◌, ◌*◌, ◌==◌, ◌<◌, ◌≤◌, pos, nat_le, Bool, true, false, ◌&&◌, not, if◌then◌else◌, List, [], ◌∷◌, ◌++◌, map, length, take, drop, slice_get, Option, Some, None, refl, subst, sym, ap, ◌∙◌, arith, append_assoc}
 use Rattle.std.specs.Option.{option_map}
 use Rattle.std.proofs.lemmas.Bool.{and_parts, or_left}
 use Rattle.std.proofs.lemmas.Slice.Eq.{bytes_eq-Decides}
 use Rattle.std.proofs.lemmas.Bool.Decides.{nat_tests}
 use Rattle.std.proofs.lemmas.List.{length-append, append-nil}
-use Rattle.std.specs.List.{list_any, list_all, position}
+use Rattle.std.specs.List.{list_all, position}
 use Rattle.span_text.specs.declared.spot.Spot.{Spot}
 use Rattle.epl_values.specs.declared.shape.Shape.{Shape}
 use Rattle.epl_values.specs.declared.shape.Shape.TheVariants as shape
@@ -22,7 +22,7 @@ use Rattle.epl_tree.specs.declared.expression.Link.{Link, out-Link}
 use Rattle.epl_tree.specs.declared.expression.Operator.{Operator}
 use Rattle.epl_tree.specs.declared.expression.Operator.TheVariants as operator
 use Rattle.typed_program.specs.declared.expression.TypedEntry.{TypedEntry}
-use Rattle.typed_program.specs.declared.expression.TypedExpr.{TypedExpr, TypedExpr-F, roll-TypedExpr, out-TypedExpr, out-roll-TypedExpr}
+use Rattle.typed_program.specs.declared.expression.TypedExpr.{TypedExpr, TypedExpr-F, out-roll-TypedExpr}
 use Rattle.typed_program.specs.declared.expression.TypedLink.{TypedLink, out-TypedLink}
 use Rattle.typed_program.specs.declared.expression.TypedNode.{TypedNode, out-TypedNode}
 use Rattle.typed_program.specs.declared.expression.TypedNode.TheOpen as typed
@@ -38,16 +38,14 @@ use Rattle.typed_program.specs.declared.term.Operand.{Operand}
 use Rattle.typed_program.specs.declared.term.Operand.TheVariants as operand
 use Rattle.type_table.specs.declared.scope.Scope.{Scope}
 use Rattle.type_table.specs.declared.table.Table.{Table}
-use Rattle.type_table.specs.Found.{Found, told}
-use Rattle.expr_rules.specs.declared.placed.Judged.{Judged}
-use Rattle.expr_rules.specs.Then.{and_then}
-use Rattle.expr_check.specs.Expressions.{part_of, typed_of, expr_found}
+use Rattle.type_table.specs.Found.{told}
+use Rattle.expr_check.specs.Expressions.{part_of, typed_of}
 use Rattle.listener_check.specs.declared.sofar.Sofar.{Sofar}
 use Rattle.listener_check.specs.declared.operand.Reached.{Reached}
 use Rattle.listener_check.specs.declared.value.Naming.{Naming}
 use Rattle.listener_check.specs.declared.value.Naming.TheVariants as naming
 use Rattle.listener_check.specs.Bound.{is_own, is_among}
-use Rattle.listener_check.specs.Durations.{number_after, point_in, decimal_by, decimal_found, digits_found, digit_codes, tenths_of, length_found, duration_read}
+use Rattle.listener_check.specs.Durations.{number_after, point_in, decimal_by, digits_found, tenths_of, length_found, duration_read}
 use Rattle.listener_check.specs.Durations.{first_digit as first_of, tenths as tenths_made}
 use Rattle.listener_check.specs.Limits.{short, sum_codes, with_sum, sum_read}
 use Rattle.listener_check.specs.Names.{mentions}
@@ -64,7 +62,7 @@ use Rattle.name_resolution.specs.Expressions as step
 use Rattle.name_resolution.specs.Expressions.{form_of as form}
 use Rattle.name_resolution.specs.Events.{Inside, Given, DurationIs, BoundAs, FieldsAre, PathIs, OperandIs, first_digit, tenths_at, tenths}
 use Rattle.name_resolution.specs.Events as rule
-use Rattle.name_resolution.proofs.Sure.{Sure, sure_sound, sure_then, sure_as, no_told, no_both, no_if}
+use Rattle.name_resolution.proofs.Sure.{Sure, sure_sound, sure_then, no_told, no_if}
 use Rattle.name_resolution.proofs.Thus.{Thus, thus_went, thus_then, thus_behind, thus_given, thus_weaker}
 use Rattle.name_resolution.proofs.Agreeing.{Agrees, ActionsAgree, variable_by, meant_by, agrees_left}
 use Rattle.name_resolution.proofs.Inversion.{postfix_parts, sum_parts, name_parts}

@@ -1,28 +1,45 @@
 -- Listeners, and every statement.
-use Rattle.std.proofs.Common.{◌≡◌, ◌+◌, ◌≤◌, ◌<◌, ◌||◌, ◌∷◌, ◌++◌}
-use Rattle.name_resolution.proofs.Common.{ℕ, suc, min, nat_le, Bool, true, false, not, List, [], map, length, drop, insert, slice_get, Option, Some, None, refl, sym, ap, subst, ◌∙◌, arith, or_left, or_right, or_parts, nat_tests, append-nil, length-insert, slice_get_within, Spot, EventExpr, Listening, StmtNode, Site, TypedTerm, Stmt, Seen, Found, Event, Statement, Exactly, inner_of, bound_of, term_found, State, when, short, captured_in, bound_in, callback_start, local_of, Names, either, any_of, if_any, none, expr_names, optional_names, exprs_name, place_names, event_names, asked, exactly, NodePart, OnPart, After, Reads, Named, Around, TermIs, Here, StmtForm, StmtIs, ListenIs, BoundAre}
+use Rattle.std.proofs.Common.{◌≡◌, ℕ, ◌+◌, ◌≤◌, suc, nat_le, Bool, true, false, ◌||◌, not, List, [], ◌∷◌, ◌++◌, map, length, drop, insert, slice_get, Option, Some, None, refl, sym, ap, subst, ◌∙◌, arith}
+use Rattle.std.proofs.lemmas.Bool.{or_left, or_right, or_parts}
+use Rattle.std.proofs.lemmas.Bool.Decides.{nat_tests}
+use Rattle.std.proofs.lemmas.List.{append-nil}
+use Rattle.std.proofs.lemmas.List.Edits.{length-insert}
+use Rattle.std.proofs.lemmas.Option.{slice_get_within}
+use Rattle.span_text.specs.declared.spot.Spot.{Spot}
+use Rattle.epl_tree.specs.declared.event.EventExpr.{EventExpr}
+use Rattle.epl_tree.specs.declared.statement.Listening.{Listening}
 use Rattle.epl_tree.specs.declared.statement.Stmt.{Stmt as Tree}
+use Rattle.epl_tree.specs.declared.statement.StmtNode.{StmtNode}
 use Rattle.epl_tree.specs.declared.statement.StmtNode.TheOpen.{StmtNode-F, Listening-F, Stmt-F}
 use Rattle.epl_tree.specs.declared.statement.StmtNode.TheOpen as tree
-use Rattle.epl_tree.specs.declared.statement.StmtNode.TheViews.{roll-StmtNode, roll-Listening, roll-Stmt, out-StmtNode, out-Listening, out-Stmt, out-roll-StmtNode, out-roll-Listening, out-roll-Stmt}
+use Rattle.epl_tree.specs.declared.statement.StmtNode.TheViews.{roll-StmtNode, roll-Listening, roll-Stmt, out-StmtNode, out-Listening, out-roll-StmtNode, out-roll-Listening, out-roll-Stmt}
 use Rattle.epl_tree.specs.declared.statement.StmtNode.TheFolds.{fold-StmtNode, fold-Listening, fold-Stmt, fold-roll-StmtNode, fold-roll-Listening, fold-roll-Stmt, ind-Stmt, map-StmtNode, map-Listening, map-Stmt}
+use Rattle.typed_program.specs.declared.program.Site.{Site}
+use Rattle.typed_program.specs.declared.program.TypedTerm.{TypedTerm}
+use Rattle.typed_program.specs.declared.statement.Stmt.{Stmt}
 use Rattle.typed_program.specs.declared.statement.Stmt.TheOpen as typed
 use Rattle.typed_program.specs.declared.statement.Stmt.TheVariants as made
+use Rattle.type_table.specs.declared.scope.Seen.{Seen}
+use Rattle.type_table.specs.Found.{Found}
+use Rattle.expr_rules.specs.Asked.{Event, Statement}
 use Rattle.epl_values.specs.declared.shape.Shape.TheVariants as value
+use Rattle.listener_check.specs.Bound.{inner_of}
 use Rattle.listener_check.specs.Bound.{local_of as bound_local}
-use Rattle.listener_check.specs.Terms.{nothing_yet, term_read}
-use Rattle.listener_check.specs.Terms.{part_of as term_part}
+use Rattle.listener_check.specs.Terms.{nothing_yet, term_found, term_read}
+use Rattle.stmt_check.specs.declared.state.State.{State}
 use Rattle.stmt_check.specs.Bodies.{Around as Body}
-use Rattle.stmt_check.specs.Bodies.{in_callback, site_of, site_number, with_site, callback_end}
-use Rattle.stmt_check.specs.Captures.{stmt_node, listening_step}
-use Rattle.stmt_check.specs.Statements.{node_reads, on_codes, callback_read, listen_read, node_names, on_names, Part, node_part, on_part, stmt_part, part_of}
-use Rattle.stmt_check.specs.Steps.{◌>>=◌, looks, reads_by, tells, within}
-use Rattle.name_resolution.specs.Statements.{stmt_form}
+use Rattle.stmt_check.specs.Bodies.{in_callback, when, short, captured_in, bound_in, callback_start, local_of, site_of, site_number, with_site}
+use Rattle.stmt_check.specs.Captures.{Names, either, none, event_names}
+use Rattle.stmt_check.specs.Statements.{asked, exactly, on_codes, callback_read, listen_read, Part, NodePart, OnPart, node_part, on_part, stmt_part, part_of}
+use Rattle.stmt_check.specs.Steps.{After, ◌>>=◌, looks, reads_by, tells, within}
+use Rattle.name_resolution.specs.Names.{Around}
+use Rattle.name_resolution.specs.Events.{TermIs}
+use Rattle.name_resolution.specs.Statements.{Here, StmtForm, StmtIs, ListenIs, stmt_form, BoundAre}
 use Rattle.name_resolution.specs.Statements.{callback_start as starts}
 use Rattle.name_resolution.specs.Statements as rule
 use Rattle.name_resolution.proofs.Sure.{no_both}
 use Rattle.name_resolution.proofs.Agreeing.{Agrees, agrees_fewer}
-use Rattle.name_resolution.proofs.Bound.{Wider, inner_wider, behind_is}
+use Rattle.name_resolution.proofs.Bound.{inner_wider, behind_is}
 use Rattle.name_resolution.proofs.Callbacks.{start_matches, bound_are, insert_at, insert_above, insert_below}
 use Rattle.std.proofs.Common.{cond, is_some}
 use Rattle.std.specs.List.{AllByRecursion}
@@ -39,16 +56,15 @@ use Rattle.typed_program.specs.declared.statement.Variable.TheVariants as var
 use Rattle.type_table.specs.declared.scope.SeenKind.{SeenKind}
 use Rattle.type_table.specs.declared.table.Table.{Table}
 use Rattle.listener_check.specs.Bound.{is_among}
-use Rattle.name_resolution.specs.Agreeing.{variable_by}
+use Rattle.name_resolution.proofs.Seeing.{variable_by}
 use Rattle.name_resolution.proofs.BoundRead.{Numbered, Tied, expr_ties, place_meant}
-use Rattle.name_resolution.specs.Agreeing.{meant_by}
+use Rattle.name_resolution.proofs.Seeing.{meant_by}
 use Rattle.name_resolution.proofs.Bound.{IsBound}
 use Rattle.name_resolution.proofs.Heads.{place_some}
 use Rattle.name_resolution.proofs.Claims.{is_called, first_by, first_behind, seen_first, or_else}
-use Rattle.name_resolution.proofs.Claims.{by_seen, meaning_mapped, agrees_more, grown_same, Extends, extends_same, Matches, Ready, Fits, Holds, Claim, Still, claim_still, claim_looks, claim_tells, claim_behind, claim_as}
-use Rattle.name_resolution.proofs.OperandsRead.{Ends, Room}
+use Rattle.name_resolution.proofs.Claims.{by_seen, meaning_mapped, agrees_more, grown_same, Extends, Matches, Ready, Fits, Claim, Still, claim_looks, claim_tells, claim_behind, claim_as}
 use Rattle.name_resolution.proofs.TermsRead.{terms_stay}
-use Rattle.name_resolution.proofs.BodyRead.{Within, Fit, ExprAt}
+use Rattle.name_resolution.proofs.BodyRead.{Within, Fit}
 use Rattle.name_resolution.proofs.StatementsRead.{no_when, S, N, Done, at_form, done_as, ForPart, ForNode, ForOn, Listens, done_claim, one_expr, send_claim, declare_claim, declare_as_claim, assign_claim, jump_claim, return_claim, spawn_claim, monitor_claim, block_claim, while_claim, for_claim, if_claim, on_claim, declare_on_claim, assign_on_claim}
 
 -- ---- a bound name

@@ -1,31 +1,49 @@
 -- Statements in which no fault is found are their trees with names resolved.
-use Rattle.std.proofs.Common.{◌≡◌, ◌+◌, ◌≤◌, ◌<◌, ◌==◌, ◌||◌, ◌&&◌, if◌then◌else◌, ◌∷◌, ◌++◌}
-use Rattle.name_resolution.proofs.Common.{ℕ, suc, min, nat_le, Bool, true, false, not, List, [], map, length, drop, insert, slice_get, Option, Some, None, refl, sym, ap, subst, ◌∙◌, arith, codes, AllByRecursion, option_map, bytes_eq, or_left, or_right, or_parts, nat_tests, append-nil, length-insert, slice_get_within, bytes_eq-Decides, Spot, Shape, Shape-F, out-Shape, EventExpr, Expr, Name, Listening, Place, StmtNode, TypeExpr, TypedExpr, Site, TypedTerm, Stmt, ActionHead, Found, type_found, Demand, Event, Statement, Exactly, Target, place_found, State, local_read, scoped, when, Names, either, any_of, if_any, none, expr_names, optional_names, exprs_name, place_names, asked, exactly, reads, args_read, maybe_read, NodePart, OnPart, row_read, After, Reads, Around, TypeIs, ExprIs, ExprsAre, Here, leaving, PlaceIs, MaybeIs, StmtForm, StmtIs, RowIs, ListenIs}
-use Rattle.std.proofs.lemmas.Bool.{not-false}
+use Rattle.std.proofs.Common.{◌≡◌, ℕ, ◌+◌, ◌==◌, suc, Bool, true, false, ◌||◌, not, List, [], ◌∷◌, map, length, slice_get, Option, Some, None, refl, sym, ap, subst, ◌∙◌, arith, codes}
+use Rattle.std.specs.List.{AllByRecursion}
+use Rattle.std.specs.Option.{option_map}
+use Rattle.std.proofs.lemmas.Bool.{or_left, or_right, not-false}
+use Rattle.std.proofs.lemmas.Bool.Decides.{nat_tests}
+use Rattle.std.proofs.lemmas.Slice.Eq.{bytes_eq-Decides}
+use Rattle.span_text.specs.declared.spot.Spot.{Spot}
+use Rattle.epl_values.specs.declared.shape.Shape.{Shape, Shape-F, out-Shape}
 use Rattle.epl_values.specs.declared.shape.Shape.TheOpen as shape
-use Rattle.epl_tree.specs.declared.statement.Level.{Level}
-use Rattle.epl_tree.specs.declared.statement.Listening.{out-Listening}
-use Rattle.epl_tree.specs.declared.statement.Stmt.{Stmt as Tree, out-Stmt}
+use Rattle.epl_tree.specs.declared.expression.Expr.{Expr}
+use Rattle.epl_tree.specs.declared.name.Name.{Name}
+use Rattle.epl_tree.specs.declared.statement.Listening.{Listening}
+use Rattle.epl_tree.specs.declared.statement.Place.{Place}
+use Rattle.epl_tree.specs.declared.statement.Stmt.{Stmt as Tree}
 use Rattle.epl_tree.specs.declared.statement.StmtNode.TheOpen as tree
-use Rattle.typed_program.specs.declared.statement.Stmt.{Stmt-F}
+use Rattle.epl_tree.specs.declared.types.TypeExpr.{TypeExpr}
+use Rattle.typed_program.specs.declared.expression.TypedExpr.{TypedExpr}
+use Rattle.typed_program.specs.declared.program.Site.{Site}
+use Rattle.typed_program.specs.declared.statement.Stmt.{Stmt, Stmt-F}
 use Rattle.typed_program.specs.declared.statement.Stmt.{out-Stmt as out-Typed}
 use Rattle.typed_program.specs.declared.statement.Stmt.TheOpen as typed
 use Rattle.typed_program.specs.declared.statement.Stmt.TheVariants as made
 use Rattle.type_table.specs.declared.scope.SeenKind.TheVariants as kind
-use Rattle.expr_rules.specs.Asked.{Sequence, Channel}
+use Rattle.type_table.specs.declared.table.ActionHead.{ActionHead}
+use Rattle.type_table.specs.Found.{Found}
+use Rattle.type_table.specs.Types.{type_found}
+use Rattle.expr_rules.specs.Asked.{Demand, Event, Sequence, Channel}
 use Rattle.epl_values.specs.declared.shape.Shape.TheVariants as value
-use Rattle.stmt_check.specs.Bodies.{name_read, in_loop, action_named}
+use Rattle.expr_check.specs.declared.check.Target.{Target}
+use Rattle.expr_check.specs.Checks.{place_found}
+use Rattle.stmt_check.specs.declared.state.State.{State}
+use Rattle.stmt_check.specs.Bodies.{name_read, local_read, scoped, in_loop, action_named, when}
 use Rattle.stmt_check.specs.Bodies.{Around as Body}
-use Rattle.stmt_check.specs.Statements.{wanted, target_shape, element_layer, element_of, shape_of, spawn_codes, is_subscribe, is_unsubscribe, control_codes, control, begun_read, spawned_read, spawn_read, channel_read, monitor_read, return_codes, return_read, jump_read, Part, block_read, other_read, if_read, while_read, turn_read, for_read, takes_listener}
-use Rattle.stmt_check.specs.Steps.{◌>>=◌, pure, given, looks, reads_by, tells, before_all, each, optional}
-use Rattle.name_resolution.specs.Names.{held, place_of}
-use Rattle.name_resolution.specs.Statements.{element, NodeIs, OtherIs}
+use Rattle.stmt_check.specs.Captures.{Names, either, any_of, if_any, none, expr_names, optional_names, exprs_name, place_names}
+use Rattle.stmt_check.specs.Statements.{asked, exactly, wanted, target_shape, reads, element_layer, element_of, shape_of, spawn_codes, is_subscribe, is_unsubscribe, control_codes, control, args_read, maybe_read, spawned_read, spawn_read, channel_read, monitor_read, return_codes, return_read, jump_read, Part, NodePart, OnPart, row_read, block_read, other_read, if_read, while_read, turn_read, for_read, takes_listener}
+use Rattle.stmt_check.specs.Steps.{After, Reads, ◌>>=◌, pure, given, looks, tells, before_all, each, optional}
+use Rattle.name_resolution.specs.Names.{Around, held}
+use Rattle.name_resolution.specs.Types.{TypeIs}
+use Rattle.name_resolution.specs.Expressions.{ExprIs}
+use Rattle.name_resolution.specs.Statements.{Here, leaving, element, PlaceIs, MaybeIs, StmtForm, StmtIs, NodeIs, RowIs, OtherIs, ListenIs}
 use Rattle.name_resolution.specs.Statements.{with_local as local_more}
 use Rattle.name_resolution.specs.Statements as rule
 use Rattle.name_resolution.proofs.Sure.{Sure, no_both}
-use Rattle.name_resolution.proofs.Agreeing.{ActionIs, variable_by}
 use Rattle.name_resolution.proofs.TypesRead.{type_sure}
-use Rattle.name_resolution.proofs.Claims.{Matches, Ready, Fits, Holds, Claim, Still, claim_bind, claim_still, claim_as, claim_by, claim_pure, claim_looks, claim_given, claim_tells, claim_behind}
+use Rattle.name_resolution.proofs.Claims.{Claim, Still, claim_bind, claim_as, claim_by, claim_pure, claim_given, claim_tells, claim_behind}
 use Rattle.name_resolution.proofs.BodyRead.{Within, Fit, ExprAt, MaybeAt, ExprsAt, PlaceAt, LocalMore, Left, reads_claim, maybe_claim, args_claim, place_claim, name_claim, local_claim, scoped_claim}
 
 pub no_when : (b : Bool) (code : ℕ) → when b code ≡ [] → b ≡ false

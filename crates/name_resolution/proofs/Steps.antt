@@ -1,25 +1,42 @@
 -- Fields, elements and methods behind a value.
-use Rattle.std.proofs.Common.{◌≡◌, ◌∷◌, ◌++◌}
-use Rattle.name_resolution.proofs.Common.{ℕ, zero, suc, min, Bool, true, false, List, [], map, length, slice_get, Option, Some, None, refl, subst, sym, ap, ◌∙◌, AllByRecursion, bytes_eq, Spot, EventShape, Field, Shape, Shape-F, out-Shape, Expr, Suffix, Method, TypedEntry, TypedExpr, roll-TypedExpr, TypedLink, TypedNode, TypedSuffix, TypedSuffixNode, Table, Found, Arguments, MethodCall, Judged, Root, Walk, Demand, arguments_found, fields_at, Part, shape_given, Step, demand_before, walk_start, Named, Around, written, Form, TypedForm, shape_of, ExprIs, ExprsAre, StepsAre}
-use Rattle.std.specs.List.{position}
+use Rattle.std.proofs.Common.{◌≡◌, ℕ, zero, suc, min, Bool, false, List, [], ◌∷◌, ◌++◌, map, length, slice_get, Option, Some, None, refl, subst, sym, ap, ◌∙◌}
+use Rattle.std.specs.List.{AllByRecursion}
+use Rattle.span_text.specs.declared.spot.Spot.{Spot}
+use Rattle.epl_values.specs.declared.shape.EventShape.{EventShape}
+use Rattle.epl_values.specs.declared.shape.Field.{Field}
+use Rattle.epl_values.specs.declared.shape.Shape.{Shape, Shape-F, out-Shape}
 use Rattle.epl_values.specs.declared.shape.Shape.TheOpen as layer
+use Rattle.epl_tree.specs.declared.expression.Expr.{Expr}
 use Rattle.epl_tree.specs.declared.expression.ExprNode.TheOpen as tree
+use Rattle.epl_tree.specs.declared.expression.Suffix.{Suffix}
+use Rattle.typed_program.specs.declared.expression.Method.{Method}
+use Rattle.typed_program.specs.declared.expression.TypedEntry.{TypedEntry}
+use Rattle.typed_program.specs.declared.expression.TypedExpr.{TypedExpr, roll-TypedExpr}
+use Rattle.typed_program.specs.declared.expression.TypedLink.{TypedLink}
+use Rattle.typed_program.specs.declared.expression.TypedNode.{TypedNode}
 use Rattle.typed_program.specs.declared.expression.TypedNode.TheOpen as typed
 use Rattle.typed_program.specs.declared.expression.TypedNode.TheVariants as made
-use Rattle.typed_program.specs.declared.expression.TypedSuffix.{TypedSuffix-F, roll-TypedSuffix, out-TypedSuffix, out-roll-TypedSuffix}
-use Rattle.typed_program.specs.declared.expression.TypedSuffixNode.{out-TypedSuffixNode}
+use Rattle.typed_program.specs.declared.expression.TypedSuffix.{TypedSuffix, TypedSuffix-F, roll-TypedSuffix, out-TypedSuffix, out-roll-TypedSuffix}
+use Rattle.typed_program.specs.declared.expression.TypedSuffixNode.{TypedSuffixNode, out-TypedSuffixNode}
 use Rattle.typed_program.specs.declared.expression.TypedSuffixNode.TheVariants as suffix
-use Rattle.expr_rules.specs.declared.methods.Called.{Called}
+use Rattle.type_table.specs.declared.table.Table.{Table}
+use Rattle.expr_rules.specs.declared.calls.Arguments.{Arguments}
+use Rattle.expr_rules.specs.declared.methods.MethodCall.{MethodCall}
 use Rattle.expr_rules.specs.declared.methods.Reach.{Reach}
+use Rattle.expr_rules.specs.declared.placed.Judged.{Judged}
+use Rattle.expr_rules.specs.declared.placed.Root.{Root}
 use Rattle.expr_rules.specs.declared.steps.StepKind.{StepKind}
-use Rattle.expr_rules.specs.Asked.{plain}
+use Rattle.expr_rules.specs.declared.steps.Walk.{Walk}
+use Rattle.expr_rules.specs.Asked.{Demand, plain}
+use Rattle.expr_rules.specs.Calls.{arguments_found, fields_at}
 use Rattle.expr_rules.specs.Methods.{method_named, signature_of, unknown_call, called_by, called_on, called_of, method_reach}
-use Rattle.expr_rules.specs.Places.{placed}
-use Rattle.expr_rules.specs.Postfix.{walked, reached, field_reach, field_at, place_of, field_named, field_in, field_of, field_found, index_wish, element_reach_layer, element_reach, unknown_element, near, nearer, element_stands, element_step, index_found, method_stands, called_found, method_found, step_found, steps_found, postfix_of, walked_from, postfix_rest, postfix_found}
-use Rattle.expr_rules.specs.Then.{and_then, through}
-use Rattle.name_resolution.specs.Names.{held}
+use Rattle.expr_rules.specs.Operators.{Part}
+use Rattle.expr_rules.specs.Places.{placed, shape_given}
+use Rattle.expr_rules.specs.Postfix.{Step, demand_before, walk_start, walked, reached, field_reach, field_at, place_of, field_named, field_in, field_of, field_found, index_wish, element_reach_layer, element_reach, unknown_element, near, element_stands, element_step, index_found, method_stands, called_found, method_found, step_found, postfix_of, walked_from, postfix_rest, postfix_found}
+use Rattle.expr_rules.specs.Then.{through}
+use Rattle.name_resolution.specs.Names.{Named, Around, written}
 use Rattle.name_resolution.specs.Names.{field_named as numbered}
-use Rattle.name_resolution.specs.Expressions.{TypedStep, form_of, step_of, typed_step, StepIs}
+use Rattle.name_resolution.specs.Expressions.{Form, TypedForm, TypedStep, form_of, step_of, typed_step, shape_of, ExprIs, ExprsAre, StepIs, StepsAre}
 use Rattle.name_resolution.specs.Expressions.{Step as StepForm}
 use Rattle.name_resolution.specs.Expressions as rule
 use Rattle.name_resolution.proofs.Sure.{Sure, sure_sound, sure_then, sure_any, sure_as}

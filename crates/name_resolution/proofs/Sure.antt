@@ -1,7 +1,8 @@
 -- What holds of a part in which no fault is found.
-use Rattle.std.proofs.Common.{◌≡◌, if◌then◌else◌, ◌∷◌, ◌++◌}
-use Rattle.name_resolution.proofs.Common.{ℕ, Bool, true, false, List, [], Option, Some, None, refl, AllByRecursion, Spot, Found, told, sound, codes_of}
-use Rattle.expr_rules.specs.Then.{and_then, through, node}
+use Rattle.std.proofs.Common.{◌≡◌, ℕ, Bool, true, false, if◌then◌else◌, List, [], ◌∷◌, ◌++◌, Option, Some, None, refl}
+use Rattle.span_text.specs.declared.spot.Spot.{Spot}
+use Rattle.type_table.specs.Found.{Found, told}
+use Rattle.expr_rules.specs.Then.{and_then, sound, node, codes_of}
 
 -- ---- no fault
 

@@ -1,5 +1,5 @@
 -- Event expressions in which no fault is found are their terms.
-use Rattle.std.proofs.Common.{◌≡◌, ℕ, ◌+◌, min, Bool, true, false, not, ◌||◌, if◌then◌else◌, List, [], ◌∷◌, ◌++◌, map, length, drop, slice_get, Option, Some, None, refl, subst, sym, ap, ◌∙◌}
+use Rattle.std.proofs.Common.{◌≡◌, ℕ, Bool, true, false, ◌||◌, if◌then◌else◌, List, [], ◌∷◌, ◌++◌, map, length, drop, slice_get, Option, Some, None, refl, subst, sym, ap, ◌∙◌}
 use Rattle.std.proofs.lemmas.List.{length_push}
 use Rattle.std.specs.List.{AllByRecursion}
 use Rattle.span_text.specs.declared.spot.Spot.{Spot}
@@ -10,7 +10,7 @@ use Rattle.epl_tree.specs.declared.event.Constraint.{Constraint}
 use Rattle.epl_tree.specs.declared.event.ConstraintNode.{ConstraintNode}
 use Rattle.epl_tree.specs.declared.event.ConstraintNode.TheVariants as node
 use Rattle.epl_tree.specs.declared.event.Duration.{Duration}
-use Rattle.epl_tree.specs.declared.event.EventExpr.{EventExpr, EventExpr-F, map-EventExpr, roll-EventExpr, out-EventExpr, out-roll-EventExpr, fold-roll-EventExpr}
+use Rattle.epl_tree.specs.declared.event.EventExpr.{EventExpr, EventExpr-F, map-EventExpr, roll-EventExpr, out-roll-EventExpr, fold-roll-EventExpr}
 use Rattle.epl_tree.specs.declared.event.EventNode.{EventNode, EventNode-F, map-EventNode, roll-EventNode, out-EventNode, out-roll-EventNode, fold-EventNode, fold-roll-EventNode}
 use Rattle.epl_tree.specs.declared.event.EventNode.TheOpen as event
 use Rattle.epl_tree.specs.declared.event.EventNode.TheFolds.{ind-EventExpr}
@@ -21,7 +21,6 @@ use Rattle.epl_tree.specs.declared.event.TemplateClause.TheVariants as clause
 use Rattle.epl_tree.specs.declared.expression.Comparison.{Comparison}
 use Rattle.epl_tree.specs.declared.expression.Comparison.TheVariants as comparison
 use Rattle.epl_tree.specs.declared.expression.Expr.{Expr}
-use Rattle.epl_tree.specs.declared.name.Name.{Name}
 use Rattle.typed_program.specs.declared.term.Constraint.{Constraint as Typed}
 use Rattle.typed_program.specs.declared.term.ConstraintNode.{ConstraintNode as TypedNode}
 use Rattle.typed_program.specs.declared.term.ConstraintNode.TheVariants as asked
@@ -42,7 +41,7 @@ use Rattle.listener_check.specs.Durations.{duration_read}
 use Rattle.listener_check.specs.Limits.{short, leaf_codes, with_leaf, leaf_read}
 use Rattle.listener_check.specs.Operands.{operand_read}
 use Rattle.listener_check.specs.Templates.{fields_of, is_taken, is_full, name_codes, with_name, name_read, no_clauses, clause_read, clauses_read, template_of, parts_read, typed_read, template_read}
-use Rattle.listener_check.specs.Terms.{Reading, Part, not_codes, each_step, each, behind_step, each_behind, followed_behind, followed_read, joined_behind, or_read, xor_read, may_begin, and_read, not_read, all_read, deadline_read, plain, negated, wait_read, ended_read, group_read, leaf_template_read, node_step, expr_step, part_of}
+use Rattle.listener_check.specs.Terms.{Part, not_codes, each_step, each, behind_step, each_behind, followed_behind, followed_read, joined_behind, or_read, xor_read, may_begin, and_read, not_read, all_read, deadline_read, plain, negated, wait_read, ended_read, group_read, leaf_template_read, node_step, expr_step, part_of}
 use Rattle.listener_check.specs.Went.{Went, went, behind, through, ◌>>=◌}
 use Rattle.stmt_check.specs.Captures.{Names, either, any_of, event_node, event_step, event_names, constraint_names, constraint_node, range_names, clause_names, template_names, limit_names, duration_names, expr_names}
 use Rattle.type_table.specs.declared.scope.Seen.{Seen}
@@ -55,15 +54,15 @@ use Rattle.std.proofs.lemmas.Bool.{or_parts}
 use Rattle.typed_program.specs.declared.statement.Variable.TheVariants as var
 use Rattle.name_resolution.specs.Names.{Meant}
 use Rattle.name_resolution.specs.Events.{BoundAs}
-use Rattle.name_resolution.specs.Agreeing.{meant_by}
+use Rattle.name_resolution.proofs.Seeing.{meant_by}
 use Rattle.name_resolution.specs.Names.{Named, Around, held, type_named, meaning_of}
 use Rattle.name_resolution.specs.Events.{Inside, DurationIs, OperandIs, RangeIs, AskIs, field_of, ConstraintsAre, ClausesAre, fields_at, TemplateIs, EventForm, event_form, TermIs, NodeIs, TermsAre}
 use Rattle.name_resolution.specs.Events as rule
-use Rattle.name_resolution.proofs.Sure.{no_told, no_both, no_if}
-use Rattle.name_resolution.proofs.Through.{Along, held_all, all_as, append_none, regroup}
-use Rattle.name_resolution.proofs.Thus.{Thus, thus_went, thus_then, thus_behind, thus_weaker}
-use Rattle.name_resolution.proofs.Agreeing.{Agrees, ActionsAgree, agrees_left, agrees_right, agrees_first, agrees_rest, agrees_all}
-use Rattle.name_resolution.proofs.OperandsRead.{Room, Behind, behind_same, within, Stays, stays_then, stays_went, stays_behind, duration_stays, operand_stays}
+use Rattle.name_resolution.proofs.Sure.{no_both, no_if}
+use Rattle.name_resolution.proofs.Through.{all_as, append_none, regroup}
+use Rattle.name_resolution.proofs.Thus.{Thus, thus_went, thus_weaker}
+use Rattle.name_resolution.proofs.Agreeing.{Agrees, ActionsAgree, agrees_left, agrees_right, agrees_first, agrees_rest}
+use Rattle.name_resolution.proofs.OperandsRead.{Room, behind_same, within, Stays, stays_then, stays_behind, duration_stays, operand_stays}
 
 module _ (around : Around) (names bound : List Named) (listed : List (List ℕ)) (table : Table) (scope inner : Scope) (types : table.types ≡ around.types) (acts : ActionsAgree table inner around.actions around.first) (owned : (name : List ℕ) (s : Seen) → is_own scope inner name ≡ true → seen inner name ≡ Some s → (meaning_of bound name ≡ Some (meant_by s)) × (s.kind ≡ kind.Bound)) (placed_name : (before : List (List ℕ)) (name : List ℕ) (more : List (List ℕ)) → listed ≡ (before ++ name ∷ []) ++ more → is_among before name ≡ false → (m : Meant) × (meaning_of bound name ≡ Some m) × (m.variable ≡ var.Local (short (length before)))) where
   abbrev S : {A : Type 0} → (Inside → A → Type 0) → Sofar → A → Sofar → Type 0

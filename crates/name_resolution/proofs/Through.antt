@@ -1,6 +1,7 @@
 -- Lists that are read in order: each item is put behind those before it, and is what its tree asks.
-use Rattle.std.proofs.Common.{◌≡◌, ◌∷◌, ◌++◌}
-use Rattle.name_resolution.proofs.Common.{ℕ, Bool, true, List, [], map, refl, sym, ap, ◌∙◌, AllByRecursion, Found}
+use Rattle.std.proofs.Common.{◌≡◌, List, [], ◌∷◌, ◌++◌, map, refl, sym, ap, ◌∙◌}
+use Rattle.std.specs.List.{AllByRecursion}
+use Rattle.type_table.specs.Found.{Found}
 use Rattle.expr_rules.specs.Then.{through}
 use Rattle.name_resolution.proofs.Sure.{Sure, sure_sound, sure_then, sure_as}
 

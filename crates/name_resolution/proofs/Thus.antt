@@ -1,7 +1,9 @@
 -- What holds of a part of an event expression, and of what stands behind it, where no fault is found in it.
-use Rattle.std.proofs.Common.{◌≡◌, ◌∷◌}
-use Rattle.name_resolution.proofs.Common.{List, [], Fault, Found, Sofar, Went, went}
-use Rattle.listener_check.specs.Went.{behind, given, through, ◌>>=◌}
+use Rattle.std.proofs.Common.{◌≡◌, List, [], ◌∷◌}
+use Rattle.type_table.specs.declared.fault.Fault.{Fault}
+use Rattle.type_table.specs.Found.{Found}
+use Rattle.listener_check.specs.declared.sofar.Sofar.{Sofar}
+use Rattle.listener_check.specs.Went.{Went, went, behind, given, through, ◌>>=◌}
 use Rattle.name_resolution.proofs.Sure.{Sure, no_both}
 
 pub record Thus {A : Type 0} (P : A → Sofar → Type 0) (w : Went A) : Type 0 where

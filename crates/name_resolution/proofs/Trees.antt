@@ -1,24 +1,36 @@
 -- Every expression in which no fault is found is its tree with names resolved, where the names that it names are known.
-use Rattle.std.proofs.Common.{◌≡◌, ◌∷◌}
-use Rattle.name_resolution.proofs.Common.{ℕ, Bool, true, List, [], map, sym, subst, refl, AllByRecursion, bytes_eq, bytes_eq-Decides, Spot, EventShape, Expr, out-Expr, Link, out-Link, Entry, out-Entry, Suffix, TypeExpr, Scope, Table, type_found, Demand, Pair, seen, Part, Linked, Step, Names, none, either, any_of, expr_names, suffix_names, Named, Around, TypeIs, Form}
-use Rattle.epl_tree.specs.declared.expression.Expr.{Expr-F, map-Expr, roll-Expr, out-roll-Expr, fold-roll-Expr}
+use Rattle.std.proofs.Common.{◌≡◌, List, map, sym, subst, refl}
+use Rattle.std.specs.List.{AllByRecursion}
+use Rattle.std.proofs.lemmas.Slice.Eq.{bytes_eq-Decides}
+use Rattle.span_text.specs.declared.spot.Spot.{Spot}
+use Rattle.epl_values.specs.declared.shape.EventShape.{EventShape}
+use Rattle.epl_tree.specs.declared.expression.Expr.{Expr, Expr-F, map-Expr, roll-Expr, out-roll-Expr, fold-roll-Expr}
 use Rattle.epl_tree.specs.declared.expression.ExprNode.{ExprNode, ExprNode-F, map-ExprNode, roll-ExprNode, out-ExprNode, out-roll-ExprNode, fold-ExprNode, fold-roll-ExprNode}
 use Rattle.epl_tree.specs.declared.expression.ExprNode.TheOpen as node
-use Rattle.epl_tree.specs.declared.expression.Link.{Link-F, map-Link, roll-Link, out-roll-Link, fold-roll-Link}
-use Rattle.epl_tree.specs.declared.expression.Entry.{Entry-F, map-Entry, roll-Entry, out-roll-Entry, fold-roll-Entry}
-use Rattle.epl_tree.specs.declared.expression.Suffix.{Suffix-F, map-Suffix, roll-Suffix, out-Suffix, out-roll-Suffix, fold-roll-Suffix}
+use Rattle.epl_tree.specs.declared.expression.Link.{Link, Link-F, map-Link, roll-Link, out-roll-Link, fold-roll-Link}
+use Rattle.epl_tree.specs.declared.expression.Entry.{Entry, Entry-F, map-Entry, roll-Entry, out-roll-Entry, fold-roll-Entry}
+use Rattle.epl_tree.specs.declared.expression.Suffix.{Suffix, Suffix-F, map-Suffix, roll-Suffix, out-roll-Suffix, fold-roll-Suffix}
 use Rattle.epl_tree.specs.declared.expression.SuffixNode.{SuffixNode, SuffixNode-F, map-SuffixNode, roll-SuffixNode, out-SuffixNode, out-roll-SuffixNode, fold-SuffixNode, fold-roll-SuffixNode}
 use Rattle.epl_tree.specs.declared.expression.ExprNode.TheFolds.{ind-Expr, ind-Suffix}
+use Rattle.epl_tree.specs.declared.types.TypeExpr.{TypeExpr}
+use Rattle.type_table.specs.declared.scope.Scope.{Scope}
+use Rattle.type_table.specs.declared.table.Table.{Table}
+use Rattle.type_table.specs.Types.{type_found}
 use Rattle.expr_rules.specs.declared.operators.Logic.TheVariants as logic
 use Rattle.expr_rules.specs.declared.operators.Level.TheVariants as level
 use Rattle.expr_rules.specs.declared.steps.StepKind.TheVariants as step
+use Rattle.expr_rules.specs.Literals.{Pair}
 use Rattle.expr_rules.specs.Methods.{is_change, method_named}
-use Rattle.expr_rules.specs.Postfix.{leads, method_kind}
+use Rattle.expr_rules.specs.Names.{seen}
+use Rattle.expr_rules.specs.Operators.{Part, Linked}
+use Rattle.expr_rules.specs.Postfix.{Step, leads, method_kind}
 use Rattle.expr_check.specs.Expressions.{Node, StepNode, node_step, suffix_node_step, entry_step, expr_step, link_step, suffix_step, part_of, link_part, entry_part}
 use Rattle.expr_check.specs.Expressions.{step_of as stepping}
-use Rattle.stmt_check.specs.Captures.{expr_node, suffix_node, link_names, entry_names}
+use Rattle.stmt_check.specs.Captures.{Names, either, any_of, expr_node, suffix_node, expr_names, suffix_names, link_names, entry_names}
 use Rattle.stmt_check.specs.Captures.{entry_step as entry_naming, expr_step as expr_naming, link_step as link_naming, suffix_step as suffix_naming}
-use Rattle.name_resolution.specs.Expressions.{form_of, step_of}
+use Rattle.name_resolution.specs.Names.{Named, Around}
+use Rattle.name_resolution.specs.Types.{TypeIs}
+use Rattle.name_resolution.specs.Expressions.{Form, form_of, step_of}
 use Rattle.name_resolution.specs.Expressions.{Step as StepForm}
 use Rattle.name_resolution.proofs.Sure.{Sure}
 use Rattle.name_resolution.proofs.Through.{held_all}

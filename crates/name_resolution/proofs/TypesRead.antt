@@ -1,16 +1,20 @@
 -- A written type in which no fault is found is its shape.
-use Rattle.std.proofs.Common.{◌≡◌, ◌++◌}
-use Rattle.name_resolution.proofs.Common.{ℕ, List, min, Option, Some, None, refl, sym, subst, ap, ◌∙◌, Spot, Shape, Shape-F, out-Shape, TypeExpr, Table, Found, told, event_of, type_found, TypeIs}
+use Rattle.std.proofs.Common.{◌≡◌, ℕ, List, ◌++◌, min, Option, Some, None, refl, sym, subst}
+use Rattle.span_text.specs.declared.spot.Spot.{Spot}
+use Rattle.epl_values.specs.declared.shape.Shape.{Shape, Shape-F, out-Shape}
 use Rattle.epl_values.specs.declared.shape.Shape.TheVariants as shape
 use Rattle.epl_values.specs.declared.shape.Shape.TheOpen as layer
-use Rattle.epl_tree.specs.declared.types.TypeExpr.{TypeExpr-F, map-TypeExpr, roll-TypeExpr, out-TypeExpr, out-roll-TypeExpr, fold-roll-TypeExpr, ind-TypeExpr}
+use Rattle.epl_tree.specs.declared.types.TypeExpr.{TypeExpr, TypeExpr-F, map-TypeExpr, roll-TypeExpr, out-roll-TypeExpr, fold-roll-TypeExpr, ind-TypeExpr}
 use Rattle.epl_tree.specs.declared.types.TypeNode.{TypeNode, TypeNode-F, map-TypeNode, roll-TypeNode, out-TypeNode, out-roll-TypeNode, fold-TypeNode, fold-roll-TypeNode}
 use Rattle.epl_tree.specs.declared.types.TypeNode.TheOpen as node
-use Rattle.type_table.specs.Types.{Written, event_shape, key_codes, sequence_of, dictionary_of, node_found, written_step, written_of}
-use Rattle.name_resolution.specs.Types.{NodeIs}
+use Rattle.type_table.specs.declared.table.Table.{Table}
+use Rattle.type_table.specs.Found.{Found, told}
+use Rattle.type_table.specs.Table.{event_of}
+use Rattle.type_table.specs.Types.{Written, event_shape, key_codes, sequence_of, dictionary_of, node_found, written_step, written_of, type_found}
+use Rattle.name_resolution.specs.Types.{TypeIs, NodeIs}
 use Rattle.name_resolution.specs.Types.{Written as Layer}
 use Rattle.name_resolution.specs.Types as rule
-use Rattle.name_resolution.proofs.Sure.{Sure, no_both, no_told}
+use Rattle.name_resolution.proofs.Sure.{Sure, no_both}
 
 module _ (table : Table) where
   -- the shape of a layer

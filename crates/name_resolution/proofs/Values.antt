@@ -1,27 +1,47 @@
 -- Arguments, calls, and literals of sequences and dictionaries; variables.
-use Rattle.std.proofs.Common.{◌≡◌, ◌+◌, if◌then◌else◌, ◌∷◌, ◌++◌}
-use Rattle.name_resolution.proofs.Common.{ℕ, min, Bool, true, false, List, [], map, slice_get, Option, Some, None, refl, subst, sym, ap, ◌∙◌, AllByRecursion, option_map, Spot, Shape, Entry, out-Entry, Expr, TypedEntry, TypedExpr, TypedExpr-F, roll-TypedExpr, out-roll-TypedExpr, TypedNode, out-TypedNode, TypedLink, TypedSuffix, TypedSuffixNode, Variable, Scope, Seen, SeenKind, ActionHead, Table, Found, event_of, Arguments, Gives, Judged, Demand, arguments_found, action_named, fields_at, Pair, seen, outer_code, variable, root_of, name_found, Part, known, judged, shape_given, sound, EventShape, Named, Meant, Around, type_named, Form, TypedForm, variable_form, ExprIs, FormIs, NodeIs, ExprsAre}
+use Rattle.std.proofs.Common.{◌≡◌, ℕ, ◌+◌, min, Bool, false, List, [], ◌∷◌, ◌++◌, map, slice_get, Option, Some, None, refl, subst, sym, ap, ◌∙◌}
+use Rattle.std.specs.List.{AllByRecursion}
+use Rattle.std.specs.Option.{option_map}
+use Rattle.span_text.specs.declared.spot.Spot.{Spot}
+use Rattle.epl_values.specs.declared.shape.Shape.{Shape}
 use Rattle.epl_values.specs.declared.shape.Shape.TheVariants as shape
+use Rattle.epl_tree.specs.declared.expression.Entry.{Entry, out-Entry}
+use Rattle.epl_tree.specs.declared.expression.Expr.{Expr}
 use Rattle.epl_tree.specs.declared.expression.ExprNode.TheOpen as tree
-use Rattle.typed_program.specs.declared.expression.TypedEntry.{TypedEntry-F, roll-TypedEntry, out-TypedEntry, out-roll-TypedEntry}
+use Rattle.typed_program.specs.declared.expression.TypedEntry.{TypedEntry, TypedEntry-F, roll-TypedEntry, out-TypedEntry, out-roll-TypedEntry}
+use Rattle.typed_program.specs.declared.expression.TypedExpr.{TypedExpr, TypedExpr-F, roll-TypedExpr, out-roll-TypedExpr}
+use Rattle.typed_program.specs.declared.expression.TypedNode.{TypedNode, out-TypedNode}
 use Rattle.typed_program.specs.declared.expression.TypedNode.TheOpen as typed
 use Rattle.typed_program.specs.declared.expression.TypedNode.TheVariants as made
-use Rattle.typed_program.specs.declared.statement.Variable.TheVariants as var
+use Rattle.typed_program.specs.declared.expression.TypedLink.{TypedLink}
+use Rattle.typed_program.specs.declared.expression.TypedSuffix.{TypedSuffix}
+use Rattle.typed_program.specs.declared.expression.TypedSuffixNode.{TypedSuffixNode}
+use Rattle.type_table.specs.declared.scope.Scope.{Scope}
+use Rattle.type_table.specs.declared.scope.Seen.{Seen}
+use Rattle.type_table.specs.declared.scope.SeenKind.{SeenKind}
 use Rattle.type_table.specs.declared.scope.SeenKind.TheVariants as kind
-use Rattle.expr_rules.specs.declared.calls.Callee.{Callee}
+use Rattle.type_table.specs.declared.table.ActionHead.{ActionHead}
+use Rattle.type_table.specs.declared.table.Table.{Table}
+use Rattle.type_table.specs.Table.{event_of}
+use Rattle.expr_rules.specs.declared.calls.Arguments.{Arguments}
 use Rattle.expr_rules.specs.declared.literals.Elements.{Elements}
 use Rattle.expr_rules.specs.declared.literals.EntryList.{EntryList}
+use Rattle.expr_rules.specs.declared.placed.Gives.{Gives}
 use Rattle.expr_rules.specs.declared.placed.Gives.TheVariants as gives
-use Rattle.expr_rules.specs.Asked.{asked_by, like, plain}
-use Rattle.expr_rules.specs.Calls.{next_wanted, argument_of, argument_found, event_plan, action_plan, missing_plan, plan_of_action, plan_of, callee_node, callee_code, call_stands, plan_found, call_found, context_code, context_stands, context_start, context_found}
-use Rattle.expr_rules.specs.Literals.{fixed, empty_code, empty_stands, element_of, element_found, no_elements, sequence_given, sequence_items, sequence_of, sequence_found, entry_of, key_wish, value_found, entry_found, no_entries, dictionary_given, dictionary_items, dictionary_of, dictionary_found}
-use Rattle.expr_rules.specs.Places.{placed}
-use Rattle.expr_rules.specs.Then.{and_then, through}
+use Rattle.expr_rules.specs.declared.placed.Judged.{Judged}
+use Rattle.expr_rules.specs.Asked.{Demand, asked_by, like, plain}
+use Rattle.expr_rules.specs.Calls.{next_wanted, argument_of, argument_found, arguments_found, action_named, fields_at, event_plan, action_plan, missing_plan, plan_of_action, plan_of, callee_code, call_stands, plan_found, call_found, context_code, context_stands, context_start, context_found}
+use Rattle.expr_rules.specs.Literals.{Pair, fixed, empty_code, empty_stands, element_of, element_found, no_elements, sequence_given, sequence_items, sequence_of, sequence_found, entry_of, key_wish, value_found, entry_found, no_entries, dictionary_given, dictionary_items, dictionary_of, dictionary_found}
+use Rattle.expr_rules.specs.Names.{outer_code, variable, root_of, name_found}
+use Rattle.expr_rules.specs.Operators.{Part}
+use Rattle.expr_rules.specs.Places.{known, placed, judged, shape_given}
+use Rattle.expr_rules.specs.Then.{through}
 use Rattle.typed_program.specs.Shapes.{is_sequence, is_dictionary}
-use Rattle.name_resolution.specs.Names.{held, meaning_of}
-use Rattle.name_resolution.specs.Expressions.{form_of, EntriesAre}
+use Rattle.epl_values.specs.declared.shape.EventShape.{EventShape}
+use Rattle.name_resolution.specs.Names.{Named, Around, held, meaning_of, type_named}
+use Rattle.name_resolution.specs.Expressions.{Form, TypedForm, form_of, variable_form, ExprIs, FormIs, NodeIs, ExprsAre, EntriesAre}
 use Rattle.name_resolution.specs.Expressions as rule
-use Rattle.name_resolution.proofs.Sure.{Sure, sure_sound, sure_then, sure_any, sure_as}
+use Rattle.name_resolution.proofs.Sure.{Sure, sure_sound, sure_then, sure_as}
 use Rattle.name_resolution.proofs.Through.{Along, One, More, all_as, through_more}
 use Rattle.name_resolution.proofs.Agreeing.{variable_by, meant_by, ActionIs, ActionsAgree}
 use Rattle.name_resolution.proofs.Judging.{Judges, Reads, Is, plain_at, stands_is, judges, placed_shape}

@@ -1,8 +1,10 @@
 -- Which term an event expression is: the same form over the same parts in the same order, durations and operands by their places
 -- among what is evaluated at the `on`.
-use Rattle.name_resolution.specs.Common.{ℕ, pos, List, [], Option, Some, None, slice_get, EventShape, Field, Shape, out-Shape, EventExpr, Comparison, Expr, Link, out-Link, Suffix, Name, TypedExpr}
-use Rattle.std.specs.Prelude.{◌+◌, ◌-◌, ◌*◌, ◌==◌, ◌∷◌, ◌≡◌, take, drop}
+use Rattle.std.specs.Prelude.{ℕ, ◌+◌, ◌-◌, ◌*◌, ◌==◌, pos, List, [], ◌∷◌, Option, Some, None, slice_get, take, drop, ◌≡◌}
 use Rattle.std.specs.List.{position}
+use Rattle.epl_values.specs.declared.shape.EventShape.{EventShape}
+use Rattle.epl_values.specs.declared.shape.Field.{Field}
+use Rattle.epl_values.specs.declared.shape.Shape.{Shape, out-Shape}
 use Rattle.epl_values.specs.declared.shape.Shape.TheOpen as shape
 use Rattle.epl_tree.specs.declared.event.Constraint.{Constraint}
 use Rattle.epl_tree.specs.declared.event.ConstraintNode.{ConstraintNode}
@@ -10,16 +12,22 @@ use Rattle.epl_tree.specs.declared.event.ConstraintNode.TheVariants as constrain
 use Rattle.epl_tree.specs.declared.event.Duration.{Duration}
 use Rattle.epl_tree.specs.declared.event.DurationNode.{DurationNode}
 use Rattle.epl_tree.specs.declared.event.DurationNode.TheVariants as duration
-use Rattle.epl_tree.specs.declared.event.EventExpr.{out-EventExpr}
+use Rattle.epl_tree.specs.declared.event.EventExpr.{EventExpr, out-EventExpr}
 use Rattle.epl_tree.specs.declared.event.EventNode.{EventNode, EventNode-F, out-EventNode}
 use Rattle.epl_tree.specs.declared.event.EventNode.TheOpen as event
 use Rattle.epl_tree.specs.declared.event.Range.{Range}
 use Rattle.epl_tree.specs.declared.event.Template.{Template}
 use Rattle.epl_tree.specs.declared.event.TemplateClause.{TemplateClause}
 use Rattle.epl_tree.specs.declared.event.TemplateClause.TheVariants as clause
+use Rattle.epl_tree.specs.declared.expression.Comparison.{Comparison}
 use Rattle.epl_tree.specs.declared.expression.Comparison.TheVariants as comparison
+use Rattle.epl_tree.specs.declared.expression.Expr.{Expr}
 use Rattle.epl_tree.specs.declared.expression.ExprNode.TheOpen as tree
+use Rattle.epl_tree.specs.declared.expression.Link.{Link, out-Link}
 use Rattle.epl_tree.specs.declared.expression.Operator.TheVariants as operator
+use Rattle.epl_tree.specs.declared.expression.Suffix.{Suffix}
+use Rattle.epl_tree.specs.declared.name.Name.{Name}
+use Rattle.typed_program.specs.declared.expression.TypedExpr.{TypedExpr}
 use Rattle.typed_program.specs.declared.expression.TypedNode.TheOpen as typed
 use Rattle.typed_program.specs.declared.statement.Variable.TheVariants as variable
 use Rattle.typed_program.specs.declared.term.Constraint.{Constraint as TypedConstraint}

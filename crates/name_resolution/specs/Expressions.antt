@@ -1,20 +1,27 @@
 -- Which typed expression an expression is: the same form over the same parts in the same order, each name by its number.
-use Rattle.name_resolution.specs.Common.{ℕ, pos, Bool, List, [], Option, Some, None, slice_get, EventShape, Field, Shape, out-Shape, TypeExpr, Comparison, Expr, Link, out-Link, Suffix, Method, TypedExpr, Variable}
-use Rattle.std.specs.Prelude.{◌+◌, ◌-◌, ◌*◌, ◌∷◌, ◌≡◌, neg_ℤ}
+use Rattle.std.specs.Prelude.{ℕ, ◌+◌, ◌-◌, ◌*◌, pos, neg_ℤ, Bool, List, [], ◌∷◌, Option, Some, None, slice_get, ◌≡◌}
+use Rattle.epl_values.specs.declared.shape.EventShape.{EventShape}
+use Rattle.epl_values.specs.declared.shape.Field.{Field}
+use Rattle.epl_values.specs.declared.shape.Shape.{Shape, out-Shape}
 use Rattle.epl_values.specs.declared.shape.Shape.TheOpen as shape
+use Rattle.epl_tree.specs.declared.types.TypeExpr.{TypeExpr}
+use Rattle.epl_tree.specs.declared.expression.Comparison.{Comparison}
 use Rattle.epl_tree.specs.declared.expression.Entry.{Entry, out-Entry}
-use Rattle.epl_tree.specs.declared.expression.Expr.{out-Expr}
+use Rattle.epl_tree.specs.declared.expression.Expr.{Expr, out-Expr}
 use Rattle.epl_tree.specs.declared.expression.ExprNode.{ExprNode, ExprNode-F, out-ExprNode}
 use Rattle.epl_tree.specs.declared.expression.ExprNode.TheOpen as tree
-use Rattle.epl_tree.specs.declared.expression.Suffix.{out-Suffix}
+use Rattle.epl_tree.specs.declared.expression.Link.{Link, out-Link}
+use Rattle.epl_tree.specs.declared.expression.Suffix.{Suffix, out-Suffix}
 use Rattle.epl_tree.specs.declared.expression.SuffixNode.{SuffixNode, SuffixNode-F, out-SuffixNode}
+use Rattle.typed_program.specs.declared.expression.Method.{Method}
 use Rattle.typed_program.specs.declared.expression.TypedEntry.{TypedEntry, out-TypedEntry}
-use Rattle.typed_program.specs.declared.expression.TypedExpr.{out-TypedExpr}
+use Rattle.typed_program.specs.declared.expression.TypedExpr.{TypedExpr, out-TypedExpr}
 use Rattle.typed_program.specs.declared.expression.TypedLink.{TypedLink, out-TypedLink}
 use Rattle.typed_program.specs.declared.expression.TypedNode.{TypedNode, TypedNode-F, out-TypedNode}
 use Rattle.typed_program.specs.declared.expression.TypedNode.TheOpen as typed
 use Rattle.typed_program.specs.declared.expression.TypedSuffix.{TypedSuffix, out-TypedSuffix}
 use Rattle.typed_program.specs.declared.expression.TypedSuffixNode.{TypedSuffixNode, TypedSuffixNode-F, out-TypedSuffixNode}
+use Rattle.typed_program.specs.declared.statement.Variable.{Variable}
 use Rattle.typed_program.specs.declared.statement.Variable.TheVariants as variable
 use Rattle.name_resolution.specs.Names.{Named, Meant, Around, held, meaning_of, place_of, type_named, field_named, written}
 use Rattle.name_resolution.specs.Types.{TypeIs}

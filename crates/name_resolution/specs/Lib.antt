@@ -1,10 +1,7 @@
-pub mod Common
 pub mod Names
 pub mod Types
 pub mod Expressions
 pub mod Events
 pub mod Statements
-pub mod Agreeing
-pub mod Laws
 pub mod Units
 pub mod Resolves

@@ -1,9 +1,13 @@
 -- What names stand for. Of two of one name the first counts, though no two that are visible together have one name
 -- (`docs/TYPES.md`, "Names").
-use Rattle.name_resolution.specs.Common.{ℕ, List, [], map, Option, Some, None, codes, EventShape, Field, Shape, Method, Variable}
-use Rattle.std.specs.Prelude.{◌∷◌, if◌then◌else◌, min, position}
+use Rattle.std.specs.Prelude.{ℕ, min, List, [], ◌∷◌, map, Option, Some, None, position, if◌then◌else◌, codes}
 use Rattle.std.specs.Str.{bytes_eq}
+use Rattle.epl_values.specs.declared.shape.EventShape.{EventShape}
+use Rattle.epl_values.specs.declared.shape.Field.{Field}
+use Rattle.epl_values.specs.declared.shape.Shape.{Shape}
+use Rattle.typed_program.specs.declared.expression.Method.{Method}
 use Rattle.typed_program.specs.declared.expression.Method.TheVariants as method
+use Rattle.typed_program.specs.declared.statement.Variable.{Variable}
 
 -- a number as a program holds it, in 16 bits; the limits of accepted programs leave each one as it is
 abbrev pub held : ℕ → ℕ

@@ -1,20 +1,26 @@
 -- Which typed statement a statement is, and what is visible behind it.
-use Rattle.name_resolution.specs.Common.{ℕ, Bool, List, [], map, length, Option, Some, None, slice_get, codes, Shape, Shape-F, out-Shape, Expr, Name, TypeExpr, TypedExpr, Site, Variable}
-use Rattle.std.specs.Prelude.{◌+◌, ◌==◌, ◌∷◌, ◌++◌, if◌then◌else◌, ◌≡◌, nat_lt, count_by}
+use Rattle.std.specs.Prelude.{ℕ, ◌+◌, ◌==◌, nat_lt, count_by, Bool, List, [], ◌∷◌, ◌++◌, map, length, Option, Some, None, slice_get, if◌then◌else◌, codes, ◌≡◌}
 use Rattle.std.specs.List.{list_any}
+use Rattle.epl_values.specs.declared.shape.Shape.{Shape, Shape-F, out-Shape}
 use Rattle.epl_values.specs.declared.shape.Shape.TheOpen as layer
 use Rattle.epl_values.specs.declared.shape.Shape.TheVariants as shape
+use Rattle.epl_tree.specs.declared.expression.Expr.{Expr}
+use Rattle.epl_tree.specs.declared.name.Name.{Name}
 use Rattle.epl_tree.specs.declared.statement.Level.{Level}
 use Rattle.epl_tree.specs.declared.statement.Place.{Place}
 use Rattle.epl_tree.specs.declared.statement.Listening.{Listening, out-Listening}
 use Rattle.epl_tree.specs.declared.statement.Stmt.{Stmt as Tree, out-Stmt}
 use Rattle.epl_tree.specs.declared.statement.StmtNode.{StmtNode, StmtNode-F, out-StmtNode}
 use Rattle.epl_tree.specs.declared.statement.StmtNode.TheOpen as tree
+use Rattle.epl_tree.specs.declared.types.TypeExpr.{TypeExpr}
+use Rattle.typed_program.specs.declared.expression.TypedExpr.{TypedExpr}
 use Rattle.typed_program.specs.declared.program.Local.{Local}
+use Rattle.typed_program.specs.declared.program.Site.{Site}
 use Rattle.typed_program.specs.declared.statement.Stmt.{Stmt, Stmt-F}
 use Rattle.typed_program.specs.declared.statement.Stmt.{out-Stmt as out-Typed}
 use Rattle.typed_program.specs.declared.statement.Stmt.TheOpen as typed
 use Rattle.typed_program.specs.declared.statement.TypedPlace.{TypedPlace}
+use Rattle.typed_program.specs.declared.statement.Variable.{Variable}
 use Rattle.typed_program.specs.declared.statement.Variable.TheVariants as variable
 use Rattle.name_resolution.specs.Names.{Named, Meant, Around, held, meaning_of, place_of}
 use Rattle.name_resolution.specs.Types.{TypeIs}

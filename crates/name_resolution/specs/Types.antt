@@ -1,8 +1,9 @@
 -- Which shape a written type is.
-use Rattle.std.specs.Prelude.{◌≡◌}
-use Rattle.name_resolution.specs.Common.{ℕ, List, Some, EventShape, Shape, Shape-F, out-Shape, TypeExpr}
+use Rattle.std.specs.Prelude.{ℕ, List, Some, ◌≡◌}
+use Rattle.epl_values.specs.declared.shape.EventShape.{EventShape}
+use Rattle.epl_values.specs.declared.shape.Shape.{Shape, Shape-F, out-Shape}
 use Rattle.epl_values.specs.declared.shape.Shape.TheOpen as shape
-use Rattle.epl_tree.specs.declared.types.TypeExpr.{out-TypeExpr}
+use Rattle.epl_tree.specs.declared.types.TypeExpr.{TypeExpr, out-TypeExpr}
 use Rattle.epl_tree.specs.declared.types.TypeNode.{TypeNode, TypeNode-F, out-TypeNode}
 use Rattle.epl_tree.specs.declared.types.TypeNode.TheOpen as tree
 use Rattle.name_resolution.specs.Names.{type_named, held}

@@ -1,6 +1,10 @@
 -- Which typed program program files are: their event types, and their monitors with globals and actions, in order of the source.
-use Rattle.std.specs.Prelude.{◌+◌, ◌∷◌, ◌++◌, ◌≡◌}
-use Rattle.name_resolution.specs.Common.{ℕ, List, [], length, Option, Some, None, slice_get, codes, option_map, EventShape, Field, Shape, TypeExpr, Program, Site}
+use Rattle.std.specs.Prelude.{ℕ, ◌+◌, List, [], ◌∷◌, ◌++◌, length, Option, Some, None, slice_get, codes, ◌≡◌}
+use Rattle.std.specs.Option.{option_map}
+use Rattle.epl_values.specs.declared.shape.EventShape.{EventShape}
+use Rattle.epl_values.specs.declared.shape.Field.{Field}
+use Rattle.epl_values.specs.declared.shape.Shape.{Shape}
+use Rattle.epl_tree.specs.declared.types.TypeExpr.{TypeExpr}
 use Rattle.epl_tree.specs.declared.unit.ActionDecl.{ActionDecl}
 use Rattle.epl_tree.specs.declared.unit.Declaration.{Declaration}
 use Rattle.epl_tree.specs.declared.unit.Declaration.TheVariants as declaration
@@ -15,6 +19,8 @@ use Rattle.epl_tree.specs.declared.unit.Unit.{Unit as File}
 use Rattle.typed_program.specs.declared.program.Action.{Action}
 use Rattle.typed_program.specs.declared.program.Global.{Global}
 use Rattle.typed_program.specs.declared.program.Monitor.{Monitor}
+use Rattle.typed_program.specs.declared.program.Program.{Program}
+use Rattle.typed_program.specs.declared.program.Site.{Site}
 use Rattle.typed_program.specs.declared.statement.Variable.TheVariants as variable
 use Rattle.name_resolution.specs.Names.{Named, Around, held, place_of}
 use Rattle.name_resolution.specs.Types.{TypeIs}

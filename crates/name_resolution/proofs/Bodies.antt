@@ -1,17 +1,22 @@
 -- What is to hold of each part in which no fault is found: of expressions, event expressions and statements in a row.
-use Rattle.name_resolution.specs.Common.{ℕ, Bool, true, List, [], map, length, Some, slice_get, Shape, EventExpr, Expr, Site, Scope, ActionHead, Table, Names}
-use Rattle.std.specs.Prelude.{◌+◌, ◌≡◌, ◌++◌, ◌≤◌, false}
+use Rattle.std.specs.Prelude.{ℕ, ◌+◌, ◌≤◌, ◌≡◌, true, false, List, [], ◌++◌, map, length, Some, slice_get}
+use Rattle.epl_tree.specs.declared.event.EventExpr.{EventExpr}
+use Rattle.epl_tree.specs.declared.expression.Expr.{Expr}
 use Rattle.epl_tree.specs.declared.statement.Stmt.{Stmt as Tree}
+use Rattle.typed_program.specs.declared.program.Site.{Site}
+use Rattle.type_table.specs.declared.scope.Scope.{Scope}
+use Rattle.type_table.specs.declared.table.ActionHead.{ActionHead}
+use Rattle.type_table.specs.declared.table.Table.{Table}
 use Rattle.expr_rules.specs.Asked.{Demand}
 use Rattle.expr_check.specs.Expressions.{expr_found}
 use Rattle.listener_check.specs.Terms.{term_found}
 use Rattle.stmt_check.specs.declared.state.State.{State}
 use Rattle.stmt_check.specs.Bodies.{action_named}
 use Rattle.stmt_check.specs.Bodies.{Around as Body}
-use Rattle.stmt_check.specs.Captures.{expr_names, event_names}
+use Rattle.stmt_check.specs.Captures.{Names, expr_names, event_names}
 use Rattle.stmt_check.specs.Statements.{row_read, part_of}
 use Rattle.name_resolution.specs.Names.{Named, Around}
-use Rattle.name_resolution.specs.Agreeing.{Agrees, ActionIs, ActionsAgree}
+use Rattle.name_resolution.proofs.Seeing.{Agrees, ActionIs, ActionsAgree}
 use Rattle.name_resolution.specs.Expressions.{ExprIs}
 use Rattle.name_resolution.specs.Events.{TermIs}
 use Rattle.name_resolution.specs.Statements.{Here, BoundAre, RowIs}

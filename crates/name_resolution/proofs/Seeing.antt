@@ -1,12 +1,17 @@
 -- Where names and actions, as they are known by number, are what the checker sees by them.
-use Rattle.std.specs.Prelude.{◌+◌, ◌≡◌}
-use Rattle.name_resolution.specs.Common.{ℕ, Bool, true, List, Option, Some, option_map, Site, Variable, Scope, ActionHead, Table, Names}
+use Rattle.std.specs.Prelude.{ℕ, ◌+◌, ◌≡◌, true, List, Some}
+use Rattle.std.specs.Option.{option_map}
+use Rattle.typed_program.specs.declared.statement.Variable.{Variable}
 use Rattle.typed_program.specs.declared.statement.Variable.TheVariants as variable
+use Rattle.type_table.specs.declared.scope.Scope.{Scope}
 use Rattle.type_table.specs.declared.scope.Seen.{Seen}
 use Rattle.type_table.specs.declared.scope.SeenKind.{SeenKind}
 use Rattle.type_table.specs.declared.scope.SeenKind.TheVariants as kind
+use Rattle.type_table.specs.declared.table.ActionHead.{ActionHead}
+use Rattle.type_table.specs.declared.table.Table.{Table}
 use Rattle.expr_rules.specs.Calls.{action_named}
 use Rattle.expr_rules.specs.Names.{seen}
+use Rattle.stmt_check.specs.Captures.{Names}
 use Rattle.name_resolution.specs.Names.{Named, Meant, meaning_of, place_of, held}
 
 abbrev pub variable_by : SeenKind → ℕ → Variable
