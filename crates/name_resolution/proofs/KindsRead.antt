@@ -82,14 +82,13 @@ module _ (kinds : List EventDecl) (table : Table) (numbered : numbers kinds ≡ 
   fields_are : (before fs : List FieldDecl) → fields_faults kinds before fs ≡ [] → FieldsAre table.types fs (map (field_shape (numbers kinds)) fs)
   fields_are before [] none = rule.no_fields
   fields_are before (f ∷ fs) none =
-      let codes = cause (is_named f.name.text before) 1 ++ cause (nat_le 64 (length before) || nat_lt 256 (count_of kinds (before ++ f ∷ []))) 4 in
+      let codes = cause (is_named f.name.text before) 1 ++ cause (holds kinds f.shape) 3 ++ cause (nat_le 64 (length before) || nat_lt 256 (count_of kinds (before ++ f ∷ []))) 4 in
       let one = no_both (field_faults kinds before f) (fields_faults kinds (before ++ f ∷ []) fs) none in
-      let two = no_both ((type_by (numbers kinds) f.shape).faults ++ told f.shape.spot (cause (holds kinds f.shape) 3)) (told f.name.spot codes) one.0 in
-      let three = no_both (type_by (numbers kinds) f.shape).faults (told f.shape.spot (cause (holds kinds f.shape) 3)) two.0 in
+      let two = no_both (type_by (numbers kinds) f.shape).faults (told f.name.spot codes) one.0 in
       rule.a_field (record {
         name = refl;
         shape = subst (λ (n : List ℕ → Option ℕ). TypeIs table.types f.shape (type_by n f.shape).part) (sym numbered)
-            ((type_sure table f.shape).where_clear (ap (λ (n : List ℕ → Option ℕ). (type_by n f.shape).faults) (sym numbered) ∙ three.0));
+            ((type_sure table f.shape).where_clear (ap (λ (n : List ℕ → Option ℕ). (type_by n f.shape).faults) (sym numbered) ∙ two.0));
       }) (fields_are (before ++ f ∷ []) fs one.1)
 
   -- what holds behind event types that are read

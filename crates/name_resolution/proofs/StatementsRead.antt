@@ -33,7 +33,7 @@ use Rattle.stmt_check.specs.declared.state.State.{State}
 use Rattle.stmt_check.specs.Bodies.{name_read, local_read, scoped, in_loop, action_named, when}
 use Rattle.stmt_check.specs.Bodies.{Around as Body}
 use Rattle.stmt_check.specs.Captures.{Names, either, any_of, if_any, none, expr_names, optional_names, exprs_name, place_names}
-use Rattle.stmt_check.specs.Statements.{asked, exactly, wanted, target_shape, reads, element_layer, element_of, shape_of, spawn_codes, is_subscribe, is_unsubscribe, control_codes, control, args_read, maybe_read, spawned_read, spawn_read, channel_read, monitor_read, return_codes, return_read, jump_read, Part, NodePart, OnPart, row_read, block_read, other_read, if_read, while_read, turn_read, for_read, takes_listener}
+use Rattle.stmt_check.specs.Statements.{asked, exactly, wanted, for_place, target_shape, reads, element_layer, element_of, shape_of, spawn_codes, is_subscribe, is_unsubscribe, control_codes, control, args_read, maybe_read, spawned_read, spawn_read, channel_read, monitor_read, return_codes, return_read, jump_read, Part, NodePart, OnPart, row_read, block_read, other_read, if_read, while_read, turn_read, for_read, takes_listener}
 use Rattle.stmt_check.specs.Steps.{After, Reads, ◌>>=◌, pure, given, looks, tells, before_all, each, optional}
 use Rattle.name_resolution.specs.Names.{Around, held}
 use Rattle.name_resolution.specs.Types.{TypeIs}
@@ -160,10 +160,10 @@ module _ (around : Around) (sites : List Site) (monitor : ℕ) where
     then_place : (R : Stmt → Here → Here → Type 0) (p : Place) → Within (place_names p) named → (n : Target → Reads State Stmt) (s : State) → ((x : Target) (t : State) → C (λ y h k. PlaceIs around h.names p x.place → R y h k) t (n x t)) → C R s ((looks (λ t. place_found body.table t.scope p) >>= n) s)
     then_place R p within n s two = then_still (PlaceAt around sites monitor named callbacks body fit p) R (looks (λ t. place_found body.table t.scope p)) n s (place_claim around sites monitor named callbacks body fit p within s) (two _ _)
 
-    pub assign_claim : (p : Place) (e : Expr) → Within (either (place_names p) (expr_names e)) named → (s : State) → C (N (tree.Assign p e)) s ((looks (λ t. place_found body.table t.scope p) >>= λ x. reads body.table (wanted (target_shape x)) e >>= λ v. pure (made.Assign x.place v)) s)
+    pub assign_claim : (p : Place) (e : Expr) → Within (either (place_names p) (expr_names e)) named → (s : State) → C (N (tree.Assign p e)) s ((looks (λ t. place_found body.table t.scope p) >>= λ x. reads body.table (for_place (target_shape x)) e >>= λ v. pure (made.Assign x.place v)) s)
     assign_claim p e within s =
-        then_place (N (tree.Assign p e)) p (left (place_names p) (expr_names e) within) (λ x. reads body.table (wanted (target_shape x)) e >>= λ v. pure (made.Assign x.place v)) s
-        (λ x t. one_expr (λ y h k. PlaceIs around h.names p x.place → N (tree.Assign p e) y h k) (wanted (target_shape x)) refl e (right (place_names p) (expr_names e) within) (λ v. made.Assign x.place v) t
+        then_place (N (tree.Assign p e)) p (left (place_names p) (expr_names e) within) (λ x. reads body.table (for_place (target_shape x)) e >>= λ v. pure (made.Assign x.place v)) s
+        (λ x t. one_expr (λ y h k. PlaceIs around h.names p x.place → N (tree.Assign p e) y h k) (for_place (target_shape x)) refl e (right (place_names p) (expr_names e) within) (λ v. made.Assign x.place v) t
         (λ h v q r. at_form (tree.Assign p e) (typed.Assign x.place v) (made.Assign x.place v) h h (made.outs-Assign x.place v) (rule.assign r q)))
 
     then_told : (R : Stmt → Here → Here → Type 0) (spot : Spot) (code : State → List ℕ) (n : Unit {0} → Reads State Stmt) (s : State) → ((t : State) → C (λ y h k. (code s ≡ []) × (s.scope.monitor ≡ monitor) → R y h k) t (n tt t)) → C R s ((tells spot code >>= n) s)

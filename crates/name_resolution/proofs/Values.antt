@@ -29,9 +29,9 @@ use Rattle.expr_rules.specs.declared.literals.EntryList.{EntryList}
 use Rattle.expr_rules.specs.declared.placed.Gives.{Gives}
 use Rattle.expr_rules.specs.declared.placed.Gives.TheVariants as gives
 use Rattle.expr_rules.specs.declared.placed.Judged.{Judged}
-use Rattle.expr_rules.specs.Asked.{Demand, asked_by, like, plain}
-use Rattle.expr_rules.specs.Calls.{next_wanted, argument_of, argument_found, arguments_found, action_named, fields_at, event_plan, action_plan, missing_plan, plan_of_action, plan_of, callee_code, call_stands, plan_found, call_found, context_code, context_stands, context_start, context_found}
-use Rattle.expr_rules.specs.Literals.{Pair, fixed, empty_code, empty_stands, element_of, element_found, no_elements, sequence_given, sequence_items, sequence_of, sequence_found, entry_of, key_wish, value_found, entry_found, no_entries, dictionary_given, dictionary_items, dictionary_of, dictionary_found}
+use Rattle.expr_rules.specs.Asked.{Demand, asked_by, plain}
+use Rattle.expr_rules.specs.Calls.{next_wish, argument_of, argument_found, arguments_found, action_named, fields_at, event_plan, action_plan, missing_plan, plan_of_action, plan_of, callee_code, call_stands, plan_found, call_found, context_code, context_stands, context_start, context_found}
+use Rattle.expr_rules.specs.Literals.{Pair, fixed, empty_code, empty_stands, element_wish, value_wish, element_of, element_found, no_elements, sequence_given, sequence_items, sequence_of, sequence_found, entry_of, key_wish, value_found, entry_found, no_entries, dictionary_given, dictionary_items, dictionary_of, dictionary_found}
 use Rattle.expr_rules.specs.Names.{outer_code, variable, root_of, name_found}
 use Rattle.expr_rules.specs.Operators.{Part}
 use Rattle.expr_rules.specs.Places.{known, placed, judged, shape_given}
@@ -70,7 +70,7 @@ module _ (around : Around) (names : List Named) where
 
   argument_is : (e : Expr) (part : Part) (a : Arguments) → R (form_of e) part → Sure (OneArgument e a) (argument_found a part)
   argument_is e part a r =
-      let d = asked_by (like (next_wanted a)) a.paths in
+      let d = asked_by (next_wish a) a.paths in
       sure_then (Is around names e) (OneArgument e a) (part d) (argument_of a) (plain_at around names e part d refl r)
       (λ j is. sure_sound (OneArgument e a) (record { wants = a.wants; paths = a.paths; items = a.items ++ j.typed ∷ [] }) (record { item = j.typed; behind = refl; kept = refl; good = is }))
 
@@ -130,7 +130,7 @@ module _ (around : Around) (names : List Named) where
 
   empty_is : (f : Form) (signed : Bool) (o : Option Shape) (n : TypedNode) (t : TypedForm) (spot : Spot) (d : Demand) → out-TypedNode n ≡ t → NodeIs around names f t → Sure (J f signed) (empty_stands o n spot d)
   empty_is f signed (Some s) n t spot d is h = stands_is around names f signed spot d None None (gives.Value s) n t (λ none. is) (λ none. h)
-  empty_is f signed None n t spot d is h = stands_is around names f signed spot d (Some (empty_code d.wish)) None gives.Unknown n t (λ none. is) (λ none. h)
+  empty_is f signed None n t spot d is h = stands_is around names f signed spot d (empty_code d.wish) None gives.Unknown n t (λ none. is) (λ none. h)
 
   -- ---- sequences
 
@@ -139,7 +139,7 @@ module _ (around : Around) (names : List Named) where
 
   element_is : (e : Expr) (part : Part) (c : Elements) → R (form_of e) part → Sure (OneElement e c) (element_found c part)
   element_is e part c r =
-      sure_then (Is around names e) (OneElement e c) (part (plain (like c.shape))) (element_of c) (plain_at around names e part (plain (like c.shape)) refl r)
+      sure_then (Is around names e) (OneElement e c) (part (plain (element_wish c))) (element_of c) (plain_at around names e part (plain (element_wish c)) refl r)
       (λ j is. sure_sound (OneElement e c) _ (record { item = j.typed; behind = refl; kept = refl; good = is }))
 
   items_are : (es : List Expr) (signed : Bool) (xs : List TypedExpr) (s : Option Shape) (spot : Spot) (d : Demand) → ExprsAre around names es xs → Sure (J (tree.Sequence es) signed) (sequence_items xs s spot d)
@@ -183,7 +183,7 @@ module _ (around : Around) (names : List Named) where
   unfolding value_found entry_of
   entry_is t pair c r =
       sure_then (Is around names (out-Entry t).key) (OneEntry t c) (pair.key (plain (key_wish c.key))) (value_found c pair.value) (plain_at around names (out-Entry t).key pair.key (plain (key_wish c.key)) refl r.key)
-      (λ i is. sure_then (Is around names (out-Entry t).value) (OneEntry t c) (pair.value (plain (like c.value))) (entry_of c i) (plain_at around names (out-Entry t).value pair.value (plain (like c.value)) refl r.value)
+      (λ i is. sure_then (Is around names (out-Entry t).value) (OneEntry t c) (pair.value (plain (value_wish c))) (entry_of c i) (plain_at around names (out-Entry t).value pair.value (plain (value_wish c)) refl r.value)
       (λ j js. sure_sound (OneEntry t c) _ (record { item = roll-TypedEntry record { key = i.typed; value = j.typed }; behind = refl; kept = refl; good = entry_made t i.typed j.typed is js })))
 
   pairs_are : (ts : List Entry) (signed : Bool) (ys : List TypedEntry) (given : Gives) (spot : Spot) (d : Demand) → EntriesAre around names ts ys → Sure (J (tree.Dictionary ts) signed) (dictionary_items ys given spot d)
