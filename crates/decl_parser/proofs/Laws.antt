@@ -28,7 +28,7 @@ use Rattle.decl_parser.specs.Words.{semicolon, assigns, at_word, break_word, con
 use Rattle.decl_parser.specs.Events.{event}
 use Rattle.decl_parser.specs.Statements as tree
 use Rattle.decl_parser.specs.Statements.{IsName, IsTyped, IsEnded, IsNamedCall, IsPlace, IsWord, IsReturn, IsLog, IsSend, IsSpawn, IsMonitorCall, IsCommand, IsCall, IsBlock, IsOn, IsAssigned, IsDeclare, IsAssign, IsBranch, IsIf, IsWhile, IsFor, IsStmtOver, IsStmtAt, IsStmt}
-use Rattle.decl_parser.specs.Reading.{expr, name_read, typed, ended, named_call, step_at, place, word, returned, return_stmt, logged, leveled, log, sent, target, send, spawned, context, spawned_to, spawn, monitor_tail, monitor_call, print, route, sending, writing, command, call_ended, called, call, block, listened, on, assigned, given, initial, declare, assign, then_branch, block_stmt, branch, else_branch, test, head, choice, while_stmt, for_head, for_stmt, plain, nesting, stmt_node, stmt_over, stmt_at}
+use Rattle.decl_parser.specs.Reading.{expr, name_read, typed, ended, named_call, step_at, place, word, returned, return_stmt, logged, leveled, log, sent, target, send, spawned, context, spawned_to, spawn, monitor_tail, monitor_call, print, route, sending, writing, command, call_ended, called, call, block, listened, on, assigned, given, initial, declare, assign, then_branch, block_stmt, branch, else_branch, if_test, head, choice, while_stmt, for_head, for_stmt, plain, nesting, stmt_node, stmt_over, stmt_at}
 use Rattle.decl_parser.proofs.Items.{good_before, good_braced, good_unless, good_level}
 use Rattle.decl_parser.proofs.Overlaps.{good_expr_read, good_step, no_both, no_declared}
 
@@ -168,7 +168,7 @@ module _ (tokens : List Token) where
         (good_placed tokens (λ spot x. tree.stmt spot (s.Block x)) good_block) refl
 
     good_choice : Good (row_of tokens) (IsIf tokens P) (choice tokens p) if_word []
-    unfolding choice head test else_branch
+    unfolding choice head if_test else_branch
     good_choice =
         good_made (λ x. s.If x.0.0 x.0.1 x.1)
         (good_and_where else_word

@@ -167,11 +167,11 @@ module _ (tokens : List Token) where
     unfoldable pub else_branch : Reader Stmt
     else_branch at = behind (row_of tokens) else_word inner at
 
-    unfoldable pub test : Reader Expr
-    test at = behind (row_of tokens) if_word expr at
+    unfoldable pub if_test : Reader Expr
+    if_test at = behind (row_of tokens) if_word expr at
 
     unfoldable pub head : Reader (Expr × Stmt)
-    head at = and_then (test at) branch
+    head at = and_then (if_test at) branch
 
     unfoldable pub choice : Reader StmtNode
     choice at = made (λ x. s.If x.0.0 x.0.1 x.1) (and_where (row_of tokens) else_word (head at) else_branch)

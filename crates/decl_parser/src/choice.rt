@@ -140,10 +140,10 @@ impl<'t, F: Fn(Global, &[Token], usize, usize) -> Result<Option<(Stmt, usize)>, 
         self.inner(at)
     }
 
-    #[tactic(auto, unfolding(crate::specs::Reading::test, grammar_forms::specs::Reader::behind))]
+    #[tactic(auto, unfolding(crate::specs::Reading::if_test, grammar_forms::specs::Reader::behind))]
     fn test(&self, at: usize) -> Result<Option<(Expr, usize)>, AllocError>
         requires { Nests self.now.depth (F.pre self.now.deeper) (F.post self.now.deeper) }
-        ensures { IfOk result (λ r. r ≡ read.test self.now.tokens.now (read.stmt_at self.now.tokens.now self.now.depth) at) }
+        ensures { IfOk result (λ r. r ≡ read.if_test self.now.tokens.now (read.stmt_at self.now.tokens.now self.now.depth) at) }
     {
         let Some((_, at)) = keyword_at(self.tokens, word::IF, at) else {
             return Ok(None);

@@ -19,7 +19,7 @@ use Rattle.expr_parser.proofs.Items.{inside, good_name, good_word, good_placed}
 use Rattle.expr_parser.proofs.Laws.{sum_starts, sum_ext, good_sum_alone}
 use Rattle.event_parser.specs.Words.{in_word}
 use Rattle.event_parser.specs.Constraints.{constraint, low_of, high_of, range_of, IsOrder, IsTest, IsOpening, IsClosing, IsLow, IsHigh, IsRange, IsOrdered, IsNamedTest, IsNamedRange, IsRangeOrNamed, IsRangeHead, IsMark, IsNamedHead, IsHead, IsPlain, IsConstraint}
-use Rattle.event_parser.specs.Reading.{sum_at, order, test, opening, closing, low, high, range, ordered, tested, named_test, named_range, range_or_named, sum_and_colon, range_head, mark, named_head, head, plain, constraint_node, constraint_at, constraint_list}
+use Rattle.event_parser.specs.Reading.{sum_at, order, any_test, opening, closing, low, high, range, ordered, tested, named_test, named_range, range_or_named, sum_and_colon, range_head, mark, named_head, head, plain, constraint_node, constraint_at, constraint_list}
 use Rattle.event_parser.proofs.Unless.{good_unless}
 
 -- what orders
@@ -46,8 +46,8 @@ module _ (tokens : List Token) where
       (good_either (good_made (λ _. comparison.Greater) (good_word tokens greater refl))
       (good_made (λ _. comparison.GreaterEqual) (good_word tokens at_least refl)) refl) refl) refl
 
-  good_test : Good (row_of tokens) (IsTest tokens) (test tokens) (equals ++ orders) []
-  unfolding test
+  good_test : Good (row_of tokens) (IsTest tokens) (any_test tokens) (equals ++ orders) []
+  unfolding any_test
   good_test = good_either (good_made (λ _. comparison.Equal) (good_word tokens equals refl)) good_order refl
 
   good_opening : Good (row_of tokens) (IsOpening tokens) (opening tokens) (bracket ++ parenthesis) []

@@ -48,8 +48,8 @@ module _ (tokens : List Token) where
       (or_else (made (λ _. comparison.Greater) (item_of (row_of tokens) greater at))
       (made (λ _. comparison.GreaterEqual) (item_of (row_of tokens) at_least at))))
 
-  unfoldable pub test : Reader Comparison
-  test at = or_else (made (λ _. comparison.Equal) (item_of (row_of tokens) equals at)) (order at)
+  unfoldable pub any_test : Reader Comparison
+  any_test at = or_else (made (λ _. comparison.Equal) (item_of (row_of tokens) equals at)) (order at)
 
   unfoldable pub opening : Reader Bool
   opening at =
@@ -74,7 +74,7 @@ module _ (tokens : List Token) where
   ordered at = made (λ x. c.Compares x.0 x.1) (and_then (order at) sum_at)
 
   unfoldable pub tested : Reader (Comparison × Expr)
-  tested at = and_then (test at) sum_at
+  tested at = and_then (any_test at) sum_at
 
   unfoldable pub named_test : Reader ConstraintNode
   named_test at = made (λ x. c.NamedCompares x.0 x.1.0 x.1.1) (and_then (name tokens at) tested)
@@ -92,7 +92,7 @@ module _ (tokens : List Token) where
   range_head at = made (λ _. tt) (behind (row_of tokens) parenthesis sum_and_colon at)
 
   unfoldable pub mark : Reader (Unit {0})
-  mark at = or_else (made (λ _. tt) (test at)) (item_of (row_of tokens) in_word at)
+  mark at = or_else (made (λ _. tt) (any_test at)) (item_of (row_of tokens) in_word at)
 
   unfoldable pub named_head : Reader (Unit {0})
   named_head at = made (λ _. tt) (and_then (name tokens at) mark)

@@ -29,9 +29,9 @@ pub(crate) fn order_at(tokens: &[Token], at: usize) -> Option<(Comparison, usize
 }
 
 /// `=` or an order, and the place behind it.
-#[tactic(auto, unfolding(crate::specs::Reading::test))]
+#[tactic(auto, unfolding(crate::specs::Reading::any_test))]
 pub(crate) fn test_at(tokens: &[Token], at: usize) -> Option<(Comparison, usize)>
-    ensures { result ≡ read.test tokens.now at }
+    ensures { result ≡ read.any_test tokens.now at }
 {
     if let Some((_, end)) = sign_at(tokens, word::EQUALS, at) {
         return Some((Comparison::Equal, end));
