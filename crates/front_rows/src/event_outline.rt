@@ -118,11 +118,13 @@ fn put_clause(out: &mut String, clause: &TemplateClause) -> Result<(), AllocErro
 
 fn put_constraints(out: &mut String, constraints: &Constraints) -> Result<(), AllocError> {
     out.push_str("(")?;
-    let mut comma = "";
+    let mut is_first = true;
     for constraint in constraints.as_slice() {
-        out.push_str(comma)?;
+        if !is_first {
+            out.push_str(", ")?;
+        }
+        is_first = false;
         put_constraint(out, constraint)?;
-        comma = ", ";
     }
     out.push_str(")")
 }

@@ -123,11 +123,13 @@ fn put_rest(out: &mut String, operator: &str, rest: &Exprs) -> Result<(), AllocE
 
 #[cycle(expressions)]
 fn put_items(out: &mut String, items: &Exprs) -> Result<(), AllocError> {
-    let mut comma = "";
+    let mut is_first = true;
     for tree in items.as_slice() {
-        out.push_str(comma)?;
+        if !is_first {
+            out.push_str(", ")?;
+        }
+        is_first = false;
         put_expr(out, tree)?;
-        comma = ", ";
     }
     Ok(())
 }
@@ -193,11 +195,13 @@ fn put_entry(out: &mut String, entry: &Entry) -> Result<(), AllocError> {
 
 #[cycle(expressions)]
 fn put_entries(out: &mut String, entries: &Entries) -> Result<(), AllocError> {
-    let mut comma = "";
+    let mut is_first = true;
     for entry in entries.as_slice() {
-        out.push_str(comma)?;
+        if !is_first {
+            out.push_str(", ")?;
+        }
+        is_first = false;
         put_entry(out, entry)?;
-        comma = ", ";
     }
     Ok(())
 }

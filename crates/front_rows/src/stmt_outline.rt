@@ -49,11 +49,13 @@ pub fn put_stmt(out: &mut String, stmt: &Stmt) -> Result<(), AllocError> {
 #[cycle(statements)]
 pub fn put_block(out: &mut String, all: &Stmts) -> Result<(), AllocError> {
     out.push_str("{")?;
-    let mut between = "";
+    let mut is_first = true;
     for stmt in all.as_slice() {
-        out.push_str(between)?;
+        if !is_first {
+            out.push_str("; ")?;
+        }
+        is_first = false;
         put_stmt(out, stmt)?;
-        between = "; ";
     }
     out.push_str("}")
 }

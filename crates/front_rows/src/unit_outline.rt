@@ -21,11 +21,13 @@ fn put_event_type(out: &mut String, event: &EventDecl) -> Result<(), AllocError>
     out.push_str(" event ")?;
     out.push_str(event.name.text.as_str())?;
     out.push_str(" {")?;
-    let mut between = "";
+    let mut is_first = true;
     for field in event.fields.as_slice() {
-        out.push_str(between)?;
+        if !is_first {
+            out.push_str("; ")?;
+        }
+        is_first = false;
         put_declared(out, &field.shape, &field.name)?;
-        between = "; ";
     }
     out.push_str("}")
 }
@@ -34,14 +36,16 @@ fn put_monitor(out: &mut String, monitor: &MonitorDecl) -> Result<(), AllocError
     out.push_str(" monitor ")?;
     out.push_str(monitor.name.text.as_str())?;
     out.push_str(" {")?;
-    let mut between = "";
+    let mut is_first = true;
     for member in monitor.members.as_slice() {
-        out.push_str(between)?;
+        if !is_first {
+            out.push_str("; ")?;
+        }
+        is_first = false;
         match member {
             Member::Global(global) => put_global(out, global)?,
             Member::Action(action) => put_action(out, action)?,
         }
-        between = "; ";
     }
     out.push_str("}")
 }
@@ -69,11 +73,13 @@ fn put_action(out: &mut String, action: &ActionDecl) -> Result<(), AllocError> {
 
 fn put_params(out: &mut String, params: &Params) -> Result<(), AllocError> {
     out.push_str("(")?;
-    let mut comma = "";
+    let mut is_first = true;
     for param in params.as_slice() {
-        out.push_str(comma)?;
+        if !is_first {
+            out.push_str(", ")?;
+        }
+        is_first = false;
         put_declared(out, &param.shape, &param.name)?;
-        comma = ", ";
     }
     out.push_str(")")
 }

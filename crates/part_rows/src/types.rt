@@ -1,6 +1,7 @@
 ghost use Rattle.std.specs.Prelude.{◌≡◌, [], IfOk};
 ghost use Rattle.std.specs.List.{AllByRecursion};
-ghost use Rattle.evt_text.specs.Forms.{form_of, types_in, IsName, AreEventTypes};
+ghost use Rattle.event_types.specs.Types.{form_of, types_in};
+ghost use Rattle.evt_text.specs.Forms.{IsName, AreEventTypes};
 
 use epl_values::{EventShape, EventShapes, Field, Fields, List, Shape, Text};
 use sqlite_items::Boxed;
