@@ -87,7 +87,9 @@ fn typing(fault: CheckFault) -> ProgramFault {
 fn units_of(alloc: Global, files: &[Vec<u8>]) -> Result<Units, ProgramFault>
     ensures { IfOk result (λ trees. length trees ≤ 64) }
 {
-    let texts = texts_of(alloc, files)?;
+    let Ok(texts) = texts_of(alloc, files) else {
+        return Err(ProgramFault::Memory);
+    };
     if texts.len() > MOST_FILES {
         return Err(ProgramFault::Memory);
     }
@@ -111,7 +113,9 @@ pub fn program_told(alloc: Global, files: &[Vec<u8>]) -> Result<String> {
 }
 
 fn program_of(alloc: Global, files: &[Vec<u8>]) -> Result<Program, ProgramFault> {
-    let texts = texts_of(alloc, files)?;
+    let Ok(texts) = texts_of(alloc, files) else {
+        return Err(ProgramFault::Memory);
+    };
     if texts.len() > MOST_FILES {
         return Err(ProgramFault::Memory);
     }
