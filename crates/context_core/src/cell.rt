@@ -1,17 +1,19 @@
 ghost use Rattle.std.specs.Prelude.{◌≡◌, ℕ, ◌<◌, ◌-◌, ◌^◌, false, IfOk, OnOk};
 ghost use Rattle.actor_theory.specs.Machine.{cell_after};
 ghost use Rattle.typed_program.specs.Typed.{Typed};
-ghost use Rattle.context_meaning.specs.Fits.{CargoFits, ContextFits};
+ghost use Rattle.context_meaning.specs.Fits.{ContextFits};
+ghost use Rattle.record_book.specs.Fits.{CargoFits};
 ghost use Rattle.naive_meaning.specs.Actors.{contexts_of};
 ghost use Rattle.context_core.specs.Cells.{fresh_cell, record_of, is_spent};
 
-use context_meaning::{Context, Instances, Lines, Listeners};
+use context_meaning::{Context, Instances, Listeners};
 use context_steps::handle;
 use epl_values::{List, Memory};
-use naive_meaning::{ContextRecord, Entries, Entry, Handled, HandledList, Program, Settings};
+use record_book::{ContextRecord, Entries, Entry, Handled, HandledList, Lines, Settings};
 use std::alloc::Global;
 use std::marker::Model;
 use tree_walker::TreeWalker;
+use typed_program::Program;
 use typed_runs::runs_keep_shapes;
 
 /// A running context: what it is, the number of its last handling, and its log.
@@ -29,7 +31,7 @@ pub type Cells = List<Cell>;
 impl Model for Cell {
     ghost use Rattle.actor_theory.specs.Machine.{Cell as CellOf};
     ghost use Rattle.context_meaning.specs.declared.context.Context.{Context};
-    ghost use Rattle.context_meaning.specs.declared.cargo.Cargo.{Cargo};
+    ghost use Rattle.record_book.specs.declared.cargo.Cargo.{Cargo};
     ghost use Rattle.epl_values.specs.contracts.value.Value as value;
     ghost use Rattle.std.specs.Coded.{codes};
 

@@ -15,9 +15,10 @@ pub use Rattle.body_meaning.specs.declared.run.Flow.{Flow}
 pub use Rattle.body_meaning.specs.declared.run.Move.{Move}
 pub use Rattle.context_meaning.specs.Contexts.{apply, apply_all, charged, instance_of, is_busy, is_instance, put_globals, scene_of, spend, unless_spent, with_globals, with_instance, with_listener, without_instance, without_listeners}
 pub use Rattle.context_meaning.specs.Ends.{act_in, dying, fault_line, finished, idle, last_run, ondie_of, ran, run_in, taken}
-pub use Rattle.context_meaning.specs.Fits.{CargoFits, ContextFits, InstanceFits, ListenerFits, MayRun}
+pub use Rattle.context_meaning.specs.Fits.{ContextFits, InstanceFits, ListenerFits, MayRun}
+pub use Rattle.record_book.specs.Fits.{CargoFits}
 pub use Rattle.context_meaning.specs.Turns.{begun, births_in, body_number, callback_locals, completed, defaults_in, drained, event_handled, first_handled, fits, front_handled, handled, is_born, is_empty, load_handled, rowed, settled, stepped, stepped_born, stepped_found, template_of}
-pub use Rattle.context_meaning.specs.declared.cargo.Cargo.{Cargo}
+pub use Rattle.record_book.specs.declared.cargo.Cargo.{Cargo}
 pub use Rattle.context_meaning.specs.declared.context.Context.{Context}
 pub use Rattle.context_meaning.specs.declared.context.Instance.{Instance}
 pub use Rattle.context_meaning.specs.declared.context.Listener.{Listener}

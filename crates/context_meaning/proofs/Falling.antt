@@ -4,7 +4,7 @@ use Rattle.context_meaning.proofs.Common.{ℕ, List, [], length, length-append, 
 use Rattle.std.specs.Prelude.{slice_get}
 use Rattle.action_host.specs.declared.host.Effect.TheVariants as effect
 use Rattle.action_host.specs.declared.host.End.TheVariants as end
-use Rattle.context_meaning.specs.declared.cargo.Cargo.TheVariants as cargo
+use Rattle.record_book.specs.declared.cargo.Cargo.TheVariants as cargo
 use Rattle.context_meaning.specs.Ends.{ended}
 use Rattle.context_meaning.specs.Turns.{tested, turn}
 use Rattle.context_meaning.proofs.Paying.{routed, routes}

@@ -3,7 +3,7 @@ use Rattle.std.proofs.Common.{◌+◌, ◌≤◌, ◌∷◌}
 use Rattle.context_meaning.proofs.Common.{ℕ, zero, suc, List, [], length, nat_lt, cond_both, All-nil, All-head, All-tail, Value, out-Value, Program, Typed, Cargo, Listener, Context, spend, unless_spent, drained, event_handled, first_handled, front_handled, handled, rowed, settled, CargoFits, ContextFits, InstanceFits, ListenerFits}
 use Rattle.std.proofs.lemmas.List.Elements.{All-append}
 use Rattle.value_shapes.specs.Fits.{IsEvent}
-use Rattle.context_meaning.specs.declared.cargo.Cargo.TheVariants as cargo
+use Rattle.record_book.specs.declared.cargo.Cargo.TheVariants as cargo
 use Rattle.context_meaning.specs.Contexts.{fresh}
 use Rattle.context_meaning.specs.Turns.{handle, handled_whole, last_number}
 use Rattle.context_meaning.specs.Fits.{AreEvents}

@@ -6,7 +6,7 @@ use Rattle.body_meaning.specs.Acts.{act}
 use Rattle.value_shapes.specs.Fits.{IsEvent}
 use Rattle.typed_runs.specs.Bodies.{Head}
 use Rattle.typed_runs.specs.Kept.{RunFits, EffectFits, ListenFits}
-use Rattle.context_meaning.specs.declared.cargo.Line.{Line}
+use Rattle.record_book.specs.declared.cargo.Line.{Line}
 use Rattle.context_meaning.specs.Contexts.{with_line}
 use Rattle.context_meaning.proofs.Finding.{find_all, find_put, all_put, number_is}
 use Rattle.context_meaning.proofs.Births.{ascend_push, ascend_filter}

@@ -1,15 +1,24 @@
--- Contexts: instances, listeners, lines and fuel, and how each effect of a body changes them.
-use Rattle.context_meaning.specs.Common.{ℕ, List, [], Bool, true, false, not, Option, find, Value}
+-- Contexts, and the changes that they undergo.
+use Rattle.context_meaning.specs.Common.{ℕ, List, [], Bool, true, false, not, Option, Some, None, find, map, length, Value, Line, Instance, Listener, Waiting}
 use Rattle.std.specs.Prelude.{◌+◌, ◌∷◌, ◌++◌, ◌==◌, if◌then◌else◌, ◌-◌, nat_le, filter}
 use Rattle.std.specs.List.{list_any}
-use Rattle.action_host.specs.declared.host.Effect.{Effect}
-use Rattle.action_host.specs.declared.host.Effect.TheVariants as effect
 use Rattle.action_host.specs.Scenes.{Scene}
-use Rattle.context_meaning.specs.declared.cargo.Line.{Line}
-use Rattle.context_meaning.specs.declared.cargo.Line.TheVariants as line
-use Rattle.context_meaning.specs.declared.context.Instance.{Instance}
-use Rattle.context_meaning.specs.declared.context.Listener.{Listener}
-use Rattle.context_meaning.specs.declared.context.Context.{Context}
+
+-- A context: its slot, and how many slots there are; the fuel that is left; how many listeners were born and instances begun, and
+-- those that live, in that order; what was put in a row while the thing of the moment is handled, and what waits in front; its
+-- lines; whether it is spent.
+pub record Context : Type 0 where
+  pub slot : ℕ
+  pub slots : ℕ
+  pub fuel : ℕ
+  pub births : ℕ
+  pub begun : ℕ
+  pub instances : List Instance
+  pub listeners : List Listener
+  pub row : List Waiting
+  pub front : List Waiting
+  pub lines : List Line
+  pub spent : Bool
 
 -- before it has handled anything
 abbrev pub fresh : ℕ → ℕ → ℕ → Context
@@ -19,18 +28,30 @@ fresh slot slots fuel = record { slot = slot; slots = slots; fuel = fuel; births
 abbrev pub scene_of : Bool → Context → Scene
 scene_of ending c = record { slot = c.slot; slots = c.slots; fuel = c.fuel; births = c.births; made = 0; subscriptions = []; held = []; ending = ending }
 
+-- something is done with what is there, and nothing where nothing is
+abbrev pub with_some : {A : Type 0} → Option A → (A → Context → Context) → Context → Context
+with_some None go c = c
+with_some (Some a) go c = go a c
+
 -- ---- fuel
 
 abbrev pub spend : Context → Context
 spend c = record c { spent = true }
 
--- what stands behind a charge: nothing more where there is less fuel
-abbrev pub charged : ℕ → (Context → Context) → Context → Context
-charged amount go c = if nat_le amount c.fuel then go (record c { fuel = c.fuel - amount }) else spend c
+abbrev pub with_fuel : ℕ → Context → Context
+with_fuel fuel c = record c { fuel = fuel }
+
+-- a charge; where there is less fuel the context is spent, and nothing is taken
+abbrev pub paid : ℕ → Context → Context
+paid amount c = if nat_le amount c.fuel then with_fuel (c.fuel - amount) c else spend c
 
 -- nothing is done in a context that is spent
 abbrev pub unless_spent : (Context → Context) → Context → Context
 unless_spent go c = if c.spent then c else go c
+
+-- what stands behind a charge: nothing more where there is less fuel
+abbrev pub behind_charge : ℕ → (Context → Context) → Context → Context
+behind_charge amount go c = if nat_le amount c.fuel then go (with_fuel (c.fuel - amount) c) else spend c
 
 -- ---- instances
 
@@ -39,6 +60,9 @@ is_instance number i = i.number == number
 
 abbrev pub instance_of : ℕ → Context → Option Instance
 instance_of number c = find (is_instance number) c.instances
+
+abbrev pub has_instances : Context → Bool
+has_instances c = not (length c.instances == 0)
 
 -- an instance begins behind the others, with these globals
 abbrev pub with_instance : ℕ → List Value → Context → Context
@@ -60,34 +84,42 @@ with_globals number globals c = record c { instances = put_globals number global
 abbrev pub is_its : ℕ → Listener → Bool
 is_its instance l = l.instance == instance
 
+abbrev pub is_born : ℕ → Listener → Bool
+is_born birth l = l.birth == birth
+
+-- the live listener of a birth
+abbrev pub listener_of : ℕ → Context → Option Listener
+listener_of birth c = find (is_born birth) c.listeners
+
+abbrev pub births_in : Context → List ℕ
+births_in c = map (λ l. l.birth) c.listeners
+
 -- an instance has a live listener
 abbrev pub is_busy : ℕ → Context → Bool
 is_busy instance c = list_any (is_its instance) c.listeners
 
-abbrev pub without_listeners : ℕ → Context → Context
-without_listeners instance c = record c { listeners = filter (λ l. not (is_its instance l)) c.listeners }
-
 abbrev pub with_listener : ℕ → ℕ → List Value → Context → Context
 with_listener instance site captured c = record c { births = c.births + 1; listeners = c.listeners ++ (record { birth = c.births + 1; instance = instance; site = site; captured = captured }) ∷ [] }
 
--- a listener that is quit lives no longer; the empty one, 0, is none
-abbrev pub quitted : ℕ → Context → Context
-quitted birth c = record c { listeners = filter (λ l. not (l.birth == birth)) c.listeners }
+abbrev pub without_listeners : ℕ → Context → Context
+without_listeners instance c = record c { listeners = filter (λ l. not (is_its instance l)) c.listeners }
 
--- ---- effects
+-- a listener that is quit lives no longer; the empty one, 0, is none
+abbrev pub without_birth : ℕ → Context → Context
+without_birth birth c = record c { listeners = filter (λ l. not (is_born birth l)) c.listeners }
+
+-- ---- lines, the row and the front
 
 abbrev pub with_line : Line → Context → Context
 with_line l c = record c { lines = c.lines ++ l ∷ [] }
 
--- In `ondie` no listener is made. Effects of forms that aren't built yet change nothing.
-abbrev pub apply : ℕ → Bool → Effect → Context → Context
-apply instance ending (effect.Print text) c = with_line (line.Print text) c
-apply instance ending (effect.Log level text) c = with_line (line.Log level text) c
-apply instance ending (effect.Listen site operands captured) c = if ending then c else with_listener instance site captured c
-apply instance ending (effect.Quit birth) c = quitted birth c
-apply instance ending (effect.Route event) c = record c { row = c.row ++ event ∷ [] }
-apply instance ending other c = c
+-- one thing more in the row
+abbrev pub in_row : Waiting → Context → Context
+in_row w c = record c { row = c.row ++ w ∷ [] }
 
-abbrev pub apply_all : ℕ → Bool → List Effect → Context → Context
-apply_all instance ending [] c = c
-apply_all instance ending (e ∷ es) c = apply_all instance ending es (apply instance ending e c)
+-- the row and then this stand before what waits
+abbrev pub row_in_front : List Waiting → Context → Context
+row_in_front marks c = record c { front = c.row ++ marks ++ c.front; row = [] }
+
+abbrev pub with_front : List Waiting → Context → Context
+with_front front c = record c { front = front }

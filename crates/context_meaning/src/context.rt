@@ -1,5 +1,4 @@
-use crate::cargo::Lines;
-use epl_values::{List, Values};
+use epl_values::{List, Value, Values};
 
 /// A running monitor: its number among the instances of its context, from 1, its monitor, and its globals by number.
 #[derive(Drop)]
@@ -25,20 +24,23 @@ pub struct Listener {
 /// The listeners of a context, in order of birth.
 pub type Listeners = List<Listener>;
 
-/// A context as plain data: its slot and how many slots there are; the fuel that is left; how many listeners were born and
-/// instances begun, and those that live; the events that were routed in the handling of the moment, and those that wait in front;
-/// its lines; whether it is spent.
+/// What waits in front of a context, to be handled before its next entry.
 #[derive(Drop)]
-pub struct Context {
-    pub slot: u8,
-    pub slots: u8,
-    pub fuel: u64,
-    pub births: u64,
-    pub begun: u64,
-    pub instances: Instances,
-    pub listeners: Listeners,
-    pub row: Values,
-    pub front: Values,
-    pub lines: Lines,
-    pub spent: bool,
+pub enum Waiting {
+    /// An event that was routed.
+    Event(Value),
+    /// The mark that an event has been handled.
+    Completed(Value),
+}
+
+/// What waits, the first first.
+pub type Waitings = List<Waiting>;
+
+/// What the live listeners are stepped with in a turn.
+#[derive(Drop)]
+pub enum Stimulus {
+    /// An event, for ordinary templates.
+    Event(Value),
+    /// An event that has been handled, for `completed` ones.
+    Completed(Value),
 }

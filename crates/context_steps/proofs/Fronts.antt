@@ -3,10 +3,10 @@ use Rattle.context_steps.proofs.Common.{ℕ, zero, suc, Bool, true, false, cond,
 use Rattle.std.proofs.Common.{◌+◌, ◌-◌, ◌<◌, ◌∷◌, ◌≡◌, ◌++◌, reverse}
 use Rattle.std.proofs.lemmas.List.{reverse-append}
 use Rattle.typed_program.specs.declared.program.Monitor.{Monitor}
-use Rattle.context_meaning.specs.declared.cargo.Cargo.{Cargo}
+use Rattle.record_book.specs.declared.cargo.Cargo.{Cargo}
 use Rattle.context_meaning.specs.Contexts.{with_instance}
 use Rattle.context_meaning.specs.Turns.{defaults_in, first_handled, front_handled, drained, rowed, handled}
-use Rattle.context_meaning.specs.Fits.{CargoFits}
+use Rattle.record_book.specs.Fits.{CargoFits}
 use Rattle.context_steps.specs.Fronts.{Waits}
 use Rattle.context_steps.proofs.Apart.{event_apart}
 use Rattle.context_steps.proofs.Callbacks.{can_globals}

@@ -9,12 +9,13 @@ use Rattle.typed_runs.specs.Bodies.{GlobalsFit}
 use Rattle.action_host.specs.declared.host.End.{End}
 use Rattle.action_host.specs.Scenes.{Scene}
 use Rattle.action_host.specs.Told.{Told}
-use Rattle.context_meaning.specs.declared.cargo.Cargo.{Cargo}
+use Rattle.record_book.specs.declared.cargo.Cargo.{Cargo}
 use Rattle.context_meaning.specs.declared.context.Instance.{Instance}
 use Rattle.context_meaning.specs.Contexts.{is_instance, instance_of, put_globals, with_instance}
 use Rattle.context_meaning.specs.Ends.{act_in, taken, ondie_of}
 use Rattle.context_meaning.specs.Turns.{stepped_born, defaults_in, handled, rowed, first_handled}
-use Rattle.context_meaning.specs.Fits.{CargoFits, MayRun}
+use Rattle.context_meaning.specs.Fits.{MayRun}
+use Rattle.record_book.specs.Fits.{CargoFits}
 
 -- ---- instances by number
 

@@ -2,8 +2,9 @@ ghost use Rattle.std.specs.Prelude.{◌≡◌, ◌==◌, not, filter, OnOk};
 ghost use Rattle.context_meaning.specs.Contexts.{apply, apply_all, is_its, with_listener, quitted, without_listeners};
 
 use action_host::Effect;
-use context_meaning::{Context, Line, Listener};
+use context_meaning::{Context, Listener};
 use epl_values::{List, Values};
+use record_book::Line;
 use std::alloc::{AllocError, Global};
 use std::mem;
 

@@ -9,9 +9,10 @@ ghost use Rattle.context_steps.specs.Steps.{FoundAt, numbered, CanRunIn, Stands,
 use crate::effects::{apply_all, quit_all};
 use action_host::{End, Fault};
 use body_runs::BodyRunner;
-use context_meaning::{Context, Instance, Line, Listener};
+use context_meaning::{Context, Instance, Listener};
 use epl_values::{List, Values};
 use plain_host::{Entries, PlainHost};
+use record_book::Line;
 use std::alloc::{AllocError, Global};
 use std::mem;
 use typed_program::Program;

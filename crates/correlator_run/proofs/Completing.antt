@@ -5,8 +5,8 @@ use Rattle.std.proofs.lemmas.Option.{same_Some, none-some}
 use Rattle.outside.specs.Counts.{Counts, Rose}
 use Rattle.outside.specs.Told.{Told, files_of}
 use Rattle.typed_program.specs.declared.program.Program.{Program}
-use Rattle.naive_meaning.specs.declared.entry.Item.{Item}
-use Rattle.naive_meaning.specs.declared.record.Record.{Record}
+use Rattle.record_book.specs.declared.item.Item.{Item}
+use Rattle.record_book.specs.declared.record.Record.{Record}
 use Rattle.evt_reader.specs.Files.{AreItems}
 use Rattle.program_reader.specs.Programs.{IsProgram}
 use Rattle.run_face.specs.Words.{Named, named_files}

@@ -5,7 +5,7 @@ use Rattle.std.specs.List.{list_all}
 use Rattle.std.specs.Str.{bytes_eq}
 use Rattle.std.proofs.lemmas.Bool.{leb-true}
 use Rattle.std.proofs.lemmas.Option.{same_Some, none-some}
-use Rattle.naive_meaning.specs.declared.record.Settings.{Settings}
+use Rattle.record_book.specs.declared.record.Settings.{Settings}
 use Rattle.run_face.specs.declared.words.RunWords.{RunWords}
 use Rattle.run_face.specs.Words.{Named, IsNamed, TellsWords, named_files, files_behind, fuel_behind, fuel_in, is_file_word, are_programs, default_fuel, settings_of}
 use Rattle.correlator_run.specs.Steps.{WordsRead, named_of}

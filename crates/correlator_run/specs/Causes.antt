@@ -2,7 +2,7 @@
 use Rattle.std.specs.Prelude.{◌≡◌, ℕ, ◌<◌, List, ◌∷◌, length, take, Option, Some, None, slice_get, IfSome}
 use Rattle.outside.specs.Told.{Told}
 use Rattle.typed_program.specs.declared.program.Program.{Program}
-use Rattle.naive_meaning.specs.declared.entry.Item.{Item}
+use Rattle.record_book.specs.declared.item.Item.{Item}
 use Rattle.evt_reader.specs.Files.{AreItems, IsRefusedLine}
 use Rattle.program_reader.specs.declared.fault.ProgramFault.{ProgramFault}
 use Rattle.program_reader.specs.declared.fault.ProgramFault.TheVariants as fault

@@ -1,7 +1,7 @@
 -- What follows from the promise.
 use Rattle.std.specs.Prelude.{◌≡◌, ℕ, ◌^◌, ◌-◌, ◌<◌, ◌⊎◌, List, Option, Some, None, IfSome}
 use Rattle.typed_program.specs.declared.program.Program.{Program}
-use Rattle.naive_meaning.specs.declared.entry.Item.{Item}
+use Rattle.record_book.specs.declared.item.Item.{Item}
 use Rattle.run_face.specs.Words.{Named, named_files}
 use Rattle.correlator_run.specs.Inputs.{Files, IsInput}
 

@@ -1,7 +1,7 @@
 -- What the words and the files give to a run.
 use Rattle.std.specs.Prelude.{◌≡◌, ℕ, ◌≤◌, List, [], ◌∷◌, length, map, Option, Some, IfSome}
 use Rattle.typed_program.specs.declared.program.Program.{Program}
-use Rattle.naive_meaning.specs.declared.entry.Item.{Item}
+use Rattle.record_book.specs.declared.item.Item.{Item}
 use Rattle.evt_reader.specs.Files.{AreItems}
 use Rattle.program_reader.specs.Programs.{IsProgram}
 use Rattle.run_face.specs.Words.{Named}

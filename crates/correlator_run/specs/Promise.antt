@@ -5,10 +5,10 @@ use Rattle.std.specs.Option.{option_map}
 use Rattle.outside.specs.Counts.{Counts}
 use Rattle.outside.specs.Told.{Told, files_of}
 use Rattle.typed_program.specs.declared.program.Program.{Program}
-use Rattle.naive_meaning.specs.declared.entry.Item.{Item}
-use Rattle.naive_meaning.specs.declared.record.Record.{Record}
+use Rattle.record_book.specs.declared.item.Item.{Item}
+use Rattle.record_book.specs.declared.record.Record.{Record}
 use Rattle.naive_meaning.specs.Records.{IsFaithful, IsScheduled}
-use Rattle.naive_meaning.specs.Report.{report_of}
+use Rattle.record_book.specs.Report.{report_of}
 use Rattle.run_face.specs.Words.{Named, named_files, settings_of}
 use Rattle.correlator_run.specs.declared.refusal.Refusal.{Refusal}
 use Rattle.correlator_run.specs.Inputs.{Files, IsOnlyInput}

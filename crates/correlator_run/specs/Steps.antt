@@ -3,8 +3,8 @@ use Rattle.std.specs.Prelude.{◌≡◌, ℕ, ◌≤◌, List, length, map, take
 use Rattle.outside.specs.Told.{Told}
 use Rattle.epl_values.specs.declared.shape.EventShape.{EventShape}
 use Rattle.typed_program.specs.declared.program.Program.{Program}
-use Rattle.naive_meaning.specs.declared.entry.Item.{Item}
-use Rattle.naive_meaning.specs.declared.record.Record.{Record}
+use Rattle.record_book.specs.declared.item.Item.{Item}
+use Rattle.record_book.specs.declared.record.Record.{Record}
 use Rattle.evt_reader.specs.Files.{AreItems, IsRefusedLine}
 use Rattle.program_reader.specs.declared.fault.ProgramFault.{ProgramFault}
 use Rattle.program_reader.specs.Programs.{IsProgram, IsCause as IsProgramCause}

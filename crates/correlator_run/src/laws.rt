@@ -1,6 +1,6 @@
 ghost use Rattle.std.specs.Prelude.{ℕ, List, Option};
 ghost use Rattle.outside.specs.Told.{files_of};
-ghost use Rattle.naive_meaning.specs.declared.record.Record.{Record};
+ghost use Rattle.record_book.specs.declared.record.Record.{Record};
 ghost use Rattle.correlator_run.specs.Completing.{Completes, Stayed, WordsStatus};
 ghost use Rattle.correlator_run.specs.Promise.{KeepsPromise, Outside};
 

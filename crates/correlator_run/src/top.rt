@@ -2,7 +2,7 @@ ghost use Rattle.std.specs.Prelude.{◌≡◌, map, nat_eq, string_bytes, if◌t
 ghost use Rattle.std.specs.List.{list_any};
 ghost use Rattle.outside.specs.Counts.{Counts};
 ghost use Rattle.outside.specs.Told.{files_of};
-ghost use Rattle.naive_meaning.specs.Report.{report_of};
+ghost use Rattle.record_book.specs.Report.{report_of};
 ghost use Rattle.correlator_run.specs.Causes.{status_of};
 ghost use Rattle.correlator_run.specs.Promise.{IsWritten, KeepsPromise, is_spent};
 ghost use Rattle.correlator_run.specs.Steps.{Finishes, code_of};
@@ -11,8 +11,8 @@ use crate::Refusal;
 use crate::load::{Input, load};
 use crate::messages::{tell_refusal, tell_spent, tell_write_fault};
 use epl_values::Bytes;
-use naive_meaning::{ContextRecord, Record};
 use outside::{Shelf, Sink, put_all};
+use record_book::{ContextRecord, Record};
 use run_face::report;
 use std::alloc::Global;
 use typed_program::Program;

@@ -13,5 +13,5 @@ pub use Rattle.evt_reader.specs.Files.{AreLines, GivesItems, IsLine, lines_of}
 pub use Rattle.evt_reader.specs.Steps.{HasName, LacksName, TakesOff}
 pub use Rattle.evt_text.specs.Forms.{AreEventTypes}
 pub use Rattle.evt_text.specs.Spelling.{Spells}
-pub use Rattle.naive_meaning.specs.declared.entry.Item.{Item}
-pub use Rattle.naive_meaning.specs.declared.entry.Item.TheVariants.{Event}
+pub use Rattle.record_book.specs.declared.item.Item.{Item}
+pub use Rattle.record_book.specs.declared.item.Item.TheVariants.{Event}

@@ -12,7 +12,7 @@ use Rattle.event_types.specs.Types.{fields_of}
 use Rattle.value_shapes.specs.Fits.{Fit, AllFit}
 use Rattle.value_shapes.proofs.Lists.{fit_nil, fit_cons}
 use Rattle.value_shapes.proofs.Made.{event_made, integer_fits, is_event_fits, text_fits}
-use Rattle.naive_meaning.specs.Fits.{ItemFits, ItemsFit}
+use Rattle.record_book.specs.Fits.{ItemFits, ItemsFit}
 use Rattle.event_types.specs.Types.{Form, form_of, form_step}
 use Rattle.evt_text.specs.Spelling.{SpellsFields, SpellsForm, SpellsWithin}
 use Rattle.evt_reader.specs.Files.{AreItems}

@@ -4,4 +4,4 @@ pub use Rattle.std.specs.Prelude.{Err, List, None, Ok, Option, Result, Some, [],
 pub use Rattle.std.specs.Str.Lines.{lines}
 pub use Rattle.epl_values.specs.declared.shape.EventShape.{EventShape}
 pub use Rattle.epl_values.specs.declared.value.Value.{Value}
-pub use Rattle.naive_meaning.specs.declared.entry.Item.{Item}
+pub use Rattle.record_book.specs.declared.item.Item.{Item}

@@ -4,7 +4,7 @@ use Rattle.std.specs.Prelude.{◌≡◌, ◌∷◌, ◌++◌, ◌&&◌, ◌==◌
 use Rattle.std.specs.List.{flat_map}
 use Rattle.std.specs.Str.{IsUtf8}
 use Rattle.epl_values.specs.declared.shape.Shape.TheVariants as shape
-use Rattle.naive_meaning.specs.declared.entry.Item.TheVariants.{Event}
+use Rattle.record_book.specs.declared.item.Item.TheVariants.{Event}
 use Rattle.evt_text.specs.Spelling.{AreBlanks, Spells}
 use Rattle.evt_reader.specs.declared.fault.LineFault.{LineFault}
 use Rattle.evt_reader.specs.declared.fault.LineFault.TheVariants as fault

@@ -6,7 +6,7 @@ ghost use Rattle.evt_reader.specs.Steps.{name_front, is_nothing, are_blanks, Has
 
 use epl_values::{EventShape, EventShapes, Shape, Text, Value};
 use evt_text::{TextFault, behind_blanks, value_at};
-use naive_meaning::Item;
+use record_book::Item;
 use std::alloc::Global;
 use std::str;
 

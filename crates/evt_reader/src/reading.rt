@@ -1,5 +1,5 @@
 ghost use Rattle.std.specs.Prelude.{◌<◌, length, IfOk};
-ghost use Rattle.naive_meaning.specs.Fits.{ItemsFit};
+ghost use Rattle.record_book.specs.Fits.{ItemsFit};
 ghost use Rattle.evt_text.specs.Forms.{AreEventTypes};
 ghost use Rattle.evt_reader.specs.Files.{GivesItems};
 ghost use Rattle.evt_reader.specs.Steps.{TakesLine};
@@ -9,8 +9,9 @@ use crate::lines::{Lines, without_mark};
 use crate::meaning::meaning;
 use epl_values::{EventShapes, List};
 use evt_text::TextFault;
-use naive_meaning::{Items, Program};
+use record_book::Items;
 use std::alloc::Global;
+use typed_program::Program;
 
 fn take_line(
     alloc: Global,

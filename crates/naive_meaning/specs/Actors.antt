@@ -3,9 +3,9 @@ use Rattle.naive_meaning.specs.Common.{ℕ, List, [], Program, Cargo, Context}
 use Rattle.std.specs.Prelude.{◌∷◌, ◌++◌, zero, suc, length}
 use Rattle.actor_theory.specs.Language.{Sent}
 use Rattle.actor_theory.specs.Joined.{Slots, Reader}
-use Rattle.context_meaning.specs.declared.cargo.Cargo.TheVariants as cargo
-use Rattle.naive_meaning.specs.declared.entry.Item.{Item}
-use Rattle.naive_meaning.specs.declared.entry.Item.TheVariants as item
+use Rattle.record_book.specs.declared.cargo.Cargo.TheVariants as cargo
+use Rattle.record_book.specs.declared.item.Item.{Item}
+use Rattle.record_book.specs.declared.item.Item.TheVariants as item
 use Rattle.context_meaning.specs.Contexts.{fresh}
 use Rattle.context_meaning.specs.Turns.{handle}
 

@@ -2,10 +2,10 @@
 use Rattle.naive_meaning.specs.Common.{ℕ, List, Option, Program, Cargo, Line, Context}
 use Rattle.std.specs.Prelude.{◌≡◌, map}
 use Rattle.actor_theory.specs.Kept as kept
-use Rattle.naive_meaning.specs.declared.entry.Item.{Item}
-use Rattle.naive_meaning.specs.declared.record.Settings.{Settings}
-use Rattle.naive_meaning.specs.declared.record.ContextRecord.{ContextRecord}
-use Rattle.naive_meaning.specs.declared.record.Record.{Record}
+use Rattle.record_book.specs.declared.item.Item.{Item}
+use Rattle.record_book.specs.declared.record.Settings.{Settings}
+use Rattle.record_book.specs.declared.record.ContextRecord.{ContextRecord}
+use Rattle.record_book.specs.declared.record.Record.{Record}
 use Rattle.naive_meaning.specs.Actors.{contexts_of, reader_of}
 
 -- what a record shows of a context besides its handlings: its lines

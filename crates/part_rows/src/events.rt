@@ -4,10 +4,11 @@ use crate::values::shown;
 use anyhow::{Result, ensure};
 use epl_values::{Bytes, EventShapes, List};
 use evt_reader::items;
-use naive_meaning::{Item, Program};
 use outside::{DiskShelf, read_whole};
+use record_book::Item;
 use std::alloc::{AllocError, Global};
 use std::rt::Files;
+use typed_program::Program;
 
 /// The most bytes of a file that a row reads.
 const MOST: usize = 1_000_000;

@@ -2,7 +2,7 @@
 use Rattle.std.specs.Prelude.{◌≡◌, ℕ, ◌+◌, ◌-◌, ◌*◌, List, [], ◌∷◌, Bool, false, not, ◌&&◌, ◌==◌, nat_le, length, if◌then◌else◌, Option, Some, None, Result, Ok, Err, codes}
 use Rattle.std.specs.List.{list_all}
 use Rattle.std.specs.Str.{bytes_eq}
-use Rattle.naive_meaning.specs.declared.record.Settings.{Settings}
+use Rattle.record_book.specs.declared.record.Settings.{Settings}
 use Rattle.run_face.specs.declared.words.RunWords.{RunWords}
 use Rattle.run_face.specs.declared.words.WordsFault.{WordsFault}
 use Rattle.run_face.specs.declared.words.WordsFault.TheVariants.{Usage, Memory}

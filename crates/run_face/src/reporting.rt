@@ -1,11 +1,12 @@
 ghost use Rattle.std.specs.Prelude.{◌≡◌, ◌++◌, slice_get, IfOk, OnOk};
 ghost use Rattle.std.specs.List.{flat_map};
-ghost use Rattle.naive_meaning.specs.Report.{context_text, escaped, fault_text, head_of, level_name, line_text, monitor_name, name_of, report_of, spent_text, told_text};
+ghost use Rattle.record_book.specs.Report.{context_text, escaped, fault_text, head_of, level_name, line_text, monitor_name, name_of, report_of, spent_text, told_text};
 
 use action_host::Fault;
 use epl_values::{Bytes, Memory};
-use naive_meaning::{ContextRecord, Line, Program, Record};
+use record_book::{ContextRecord, Line, Record};
 use std::alloc::Global;
+use typed_program::Program;
 
 fn push_escaped(out: &mut Bytes, byte: u8) -> Result<(), Memory>
     ensures { OnOk result (out.new ≡ out.old ++ escaped byte) }

@@ -5,7 +5,7 @@ ghost use Rattle.run_face.specs.Files.{named_of};
 ghost use Rattle.run_face.specs.Words.{TellsWords, are_programs, files_behind, fuel_behind, fuel_in, is_digit, is_file_word, is_number, most_fuel, named_files, number_behind};
 
 use epl_values::{Memory, Text, Texts};
-use naive_meaning::Settings;
+use record_book::Settings;
 use std::alloc::Global;
 use thiserror::Error;
 

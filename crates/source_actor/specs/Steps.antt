@@ -3,11 +3,11 @@ use Rattle.std.specs.Prelude.{ℕ, List, [], ◌∷◌, Option, Some, None}
 use Rattle.actor_theory.specs.declared.entry.Entry.{Entry}
 use Rattle.actor_theory.specs.Machine.{ReaderCell, reader_after_item}
 use Rattle.typed_program.specs.declared.program.Program.{Program}
-use Rattle.context_meaning.specs.declared.cargo.Cargo.{Cargo}
-use Rattle.context_meaning.specs.declared.cargo.Cargo.TheVariants as cargo
-use Rattle.naive_meaning.specs.declared.entry.Item.{Item}
-use Rattle.naive_meaning.specs.declared.entry.Item.TheVariants as item
-use Rattle.naive_meaning.specs.declared.record.ReaderRecord.{ReaderRecord}
+use Rattle.record_book.specs.declared.cargo.Cargo.{Cargo}
+use Rattle.record_book.specs.declared.cargo.Cargo.TheVariants as cargo
+use Rattle.record_book.specs.declared.item.Item.{Item}
+use Rattle.record_book.specs.declared.item.Item.TheVariants as item
+use Rattle.record_book.specs.declared.record.ReaderRecord.{ReaderRecord}
 use Rattle.naive_meaning.specs.Actors.{reader_of}
 
 -- a reader of these items that has handled nothing

@@ -5,8 +5,8 @@ ghost use Rattle.typed_program.specs.declared.program.Program.{Program};
 ghost use Rattle.source_actor.specs.Steps.{after_first, first_entry, fresh_reader, item_entry, record_of};
 
 use epl_values::{Memory, copy};
-use naive_meaning::{Cargo, Entries, Entry, Item, Items, ReaderRecord, ReaderStep, ReaderSteps};
 use queues::Queue;
+use record_book::{Cargo, Entries, Entry, Item, Items, ReaderRecord, ReaderStep, ReaderSteps};
 use std::alloc::Global;
 use std::marker::Model;
 
@@ -21,8 +21,8 @@ pub struct Reader {
 
 impl Model for Reader {
     ghost use Rattle.actor_theory.specs.Machine.{ReaderCell};
-    ghost use Rattle.context_meaning.specs.declared.cargo.Cargo.{Cargo};
-    ghost use Rattle.naive_meaning.specs.declared.entry.Item.{Item};
+    ghost use Rattle.record_book.specs.declared.cargo.Cargo.{Cargo};
+    ghost use Rattle.record_book.specs.declared.item.Item.{Item};
     ghost use Rattle.epl_values.specs.contracts.value.Value as value;
     ghost use Rattle.std.specs.Coded.{codes};
 

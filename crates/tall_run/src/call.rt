@@ -2,8 +2,8 @@ ghost use Rattle.std.specs.Prelude.{map, string_bytes};
 ghost use Rattle.correlator_run.specs.Promise.{KeepsPromise};
 
 use correlator_run::{Outcome, correlate_serial};
-use naive_meaning::Record;
 use outside::{Shelf, Sink};
+use record_book::Record;
 use std::alloc::Global;
 use std::snapshot::Snapshot;
 

@@ -8,11 +8,11 @@ use Rattle.actor_theory.specs.Kept as kept
 use Rattle.actor_theory.specs.Machine.{slots_kept, kept_of}
 use Rattle.actor_theory.proofs.Looping.{machine-scheduled}
 use Rattle.actor_theory.proofs.Keeping.{scheduled-kept}
-use Rattle.context_meaning.specs.declared.cargo.Line.{Line}
-use Rattle.naive_meaning.specs.declared.record.ContextRecord.{ContextRecord}
-use Rattle.naive_meaning.specs.declared.record.ReaderRecord.{ReaderRecord}
-use Rattle.naive_meaning.specs.declared.record.Record.{Record}
-use Rattle.naive_meaning.specs.declared.record.Settings.{Settings}
+use Rattle.record_book.specs.declared.cargo.Line.{Line}
+use Rattle.record_book.specs.declared.record.ContextRecord.{ContextRecord}
+use Rattle.record_book.specs.declared.record.ReaderRecord.{ReaderRecord}
+use Rattle.record_book.specs.declared.record.Record.{Record}
+use Rattle.record_book.specs.declared.record.Settings.{Settings}
 use Rattle.naive_meaning.specs.Records as records
 use Rattle.context_core.specs.Cells.{record_of}
 use Rattle.world_serial.specs.Queued.{but, first_queue, records_of}

@@ -6,11 +6,12 @@ use Rattle.std.proofs.lemmas.List.Elements.{All-nil, All-cons, All-head, All-tai
 use Rattle.epl_values.specs.declared.value.Value.{out-Value}
 use Rattle.actor_theory.specs.Machine.{queue_in}
 use Rattle.value_shapes.specs.Fits.{IsEvent}
-use Rattle.context_meaning.specs.declared.cargo.Cargo.TheVariants as cargo
+use Rattle.record_book.specs.declared.cargo.Cargo.TheVariants as cargo
 use Rattle.context_meaning.specs.declared.context.Listener.{Listener}
 use Rattle.context_meaning.specs.Contexts.{fresh}
-use Rattle.context_meaning.specs.Fits.{CargoFits, ContextFits, InstanceFits, ListenerFits}
-use Rattle.naive_meaning.specs.Fits.{EntriesFit, EntryFits, ItemFits}
+use Rattle.context_meaning.specs.Fits.{ContextFits, InstanceFits, ListenerFits}
+use Rattle.record_book.specs.Fits.{CargoFits}
+use Rattle.record_book.specs.Fits.{EntriesFit, EntryFits, ItemFits}
 use Rattle.world_serial.specs.Fitting.{CellFits, Fitting}
 use Rattle.world_serial.proofs.Resting.{handle_rests}
 use Rattle.world_serial.proofs.TurnLemmas.{Standing, some-first, some-item, waiting-same}

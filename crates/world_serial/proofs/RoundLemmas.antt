@@ -8,7 +8,7 @@ use Rattle.actor_theory.specs.Rounding.{Rounding, RoundsSoFar}
 use Rattle.actor_theory.proofs.Measuring.{joined-measure}
 use Rattle.actor_theory.proofs.Rounding.{rounding-all, rounds-more, rounds-all}
 use Rattle.actor_theory.proofs.Looping.{machine-rounding_more}
-use Rattle.context_meaning.specs.declared.cargo.Cargo.TheVariants as cargo
+use Rattle.record_book.specs.declared.cargo.Cargo.TheVariants as cargo
 use Rattle.world_serial.specs.Serial.{weight, cost, TurnsOn, RoundsOn}
 
 -- an item sends one entry at most

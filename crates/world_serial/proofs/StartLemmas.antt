@@ -5,7 +5,7 @@ use Rattle.actor_theory.specs.World.{World as Moment, IsFinished}
 use Rattle.actor_theory.specs.Machine.{fresh_reader, loaded_queues, without_items}
 use Rattle.actor_theory.proofs.Beginning.{fresh-stand}
 use Rattle.actor_theory.proofs.Looping.{machine-boot}
-use Rattle.context_meaning.specs.declared.cargo.Cargo.TheVariants as cargo
+use Rattle.record_book.specs.declared.cargo.Cargo.TheVariants as cargo
 use Rattle.world_serial.specs.Serial.{IsStanding, IsFresh}
 use Rattle.world_serial.proofs.FittingLemmas.{given-fits}
 use Rattle.world_serial.proofs.Sends.{ToMain, delivered-main}

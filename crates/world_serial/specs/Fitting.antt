@@ -3,7 +3,7 @@ use Rattle.world_serial.specs.Common.{List, [], Entry, Cell, Program, Cargo, Con
 use Rattle.std.specs.Prelude.{◌≡◌, ◌<◌, ◌-◌, ◌^◌}
 use Rattle.std.specs.List.{All}
 use Rattle.context_meaning.specs.Fits.{ContextFits}
-use Rattle.naive_meaning.specs.Fits.{EntriesFit, ItemsFit}
+use Rattle.record_book.specs.Fits.{EntriesFit, ItemsFit}
 use Rattle.world_serial.specs.declared.world.World.{World}
 
 -- between handlings nothing is routed, and there is less fuel than the greatest amount

@@ -2,7 +2,7 @@
 use Rattle.world_serial.specs.Common.{ℕ, suc, List, [], Entry, Cell, Context, Cargo}
 use Rattle.std.specs.Prelude.{◌∷◌, not, ◌==◌, Option, Some, None, filter}
 use Rattle.actor_theory.specs.Order.{ordered}
-use Rattle.naive_meaning.specs.declared.record.ContextRecord.{ContextRecord}
+use Rattle.record_book.specs.declared.record.ContextRecord.{ContextRecord}
 use Rattle.context_core.specs.Cells.{record_of}
 
 -- the oldest entry, and the others

@@ -10,8 +10,8 @@ use Rattle.actor_theory.specs.Measure.{joined_weight, joined_cost}
 use Rattle.actor_theory.specs.Rounding.{Rounded}
 use Rattle.actor_theory.specs.Faithful.{IsBoot}
 use Rattle.naive_meaning.specs.Actors.{contexts_of, reader_of}
-use Rattle.naive_meaning.specs.declared.record.Settings.{Settings}
-use Rattle.naive_meaning.specs.declared.record.Record.{Record}
+use Rattle.record_book.specs.declared.record.Settings.{Settings}
+use Rattle.record_book.specs.declared.record.Record.{Record}
 use Rattle.world_serial.specs.declared.world.World.{World}
 use Rattle.world_serial.specs.Fitting.{IsFitting}
 use Rattle.world_serial.specs.Queued.{records_of}

@@ -2,7 +2,7 @@ ghost use Rattle.std.specs.Prelude.{◌≡◌, ◌<◌, ◌≤◌, ◌+◌, ◌-
 ghost use Rattle.actor_theory.specs.Language.{by};
 ghost use Rattle.actor_theory.specs.Order.{ordered};
 ghost use Rattle.typed_program.specs.Typed.{Typed};
-ghost use Rattle.naive_meaning.specs.Fits.{ItemsFit};
+ghost use Rattle.record_book.specs.Fits.{ItemsFit};
 ghost use Rattle.naive_meaning.specs.Records.{IsFaithful, IsScheduled};
 ghost use Rattle.world_serial.specs.Queued.{but, first_queue, records_of};
 ghost use Rattle.world_serial.specs.Serial.{record_of_world};
@@ -12,9 +12,10 @@ use crate::rounds::run_rounds;
 use crate::start::boot;
 use context_core::Cell;
 use epl_values::{List, Memory};
-use naive_meaning::{ContextRecords, Entries, Entry, Items, Program, Record, Settings};
 use queues::Queue;
+use record_book::{ContextRecords, Entries, Entry, Items, Record, Settings};
 use std::alloc::Global;
+use typed_program::Program;
 
 /// Moves a sender's entries behind those in a list, and gives the queue of the others.
 fn take_sender(

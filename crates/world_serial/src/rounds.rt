@@ -6,7 +6,8 @@ ghost use Rattle.world_serial.specs.Serial.{FinishesOn, IsStanding, RoundsOn};
 use crate::World;
 use crate::turns::{reader_turn, slot_turn};
 use epl_values::Memory;
-use naive_meaning::{Program, Settings};
+use record_book::Settings;
+use typed_program::Program;
 
 /// A round: the slots in ascending order, and then the reader, have a turn each. Tells whether anything was handled.
 fn round(

@@ -2,7 +2,7 @@ ghost use Rattle.std.specs.Prelude.{◌≡◌, ◌<◌, ◌≤◌, ◌+◌, ◌-
 ghost use Rattle.actor_theory.specs.Language.{stamped};
 ghost use Rattle.actor_theory.specs.Machine.{empty_queues, fresh_cells};
 ghost use Rattle.naive_meaning.specs.Actors.{contexts_of, loads_below};
-ghost use Rattle.naive_meaning.specs.Fits.{ItemsFit};
+ghost use Rattle.record_book.specs.Fits.{ItemsFit};
 ghost use Rattle.typed_program.specs.Typed.{Typed};
 ghost use Rattle.typed_program.specs.declared.program.Program.{Program as TheProgram};
 ghost use Rattle.world_serial.specs.Serial.{IsBooted, IsFresh};
@@ -11,10 +11,11 @@ use crate::World;
 use crate::rounds::run_rounds;
 use context_core::Cell;
 use epl_values::Memory;
-use naive_meaning::{Cargo, Entry, Items, Program, Settings};
 use queues::Queue;
+use record_book::{Cargo, Entry, Items, Settings};
 use source_actor::Reader;
 use std::alloc::Global;
+use typed_program::Program;
 
 fn fresh_cells(alloc: Global, settings: Settings) -> Result<Vec<Cell>, Memory>
     ensures { IfOk result (λ cells. (p : TheProgram) → cells.items ≡ fresh_cells (contexts_of p settings.contexts settings.fuel) settings.contexts) }

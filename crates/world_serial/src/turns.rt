@@ -8,8 +8,9 @@ ghost use Rattle.world_serial.specs.Serial.{IsStanding, TurnsOn};
 
 use crate::World;
 use epl_values::Memory;
-use naive_meaning::{Entry, Program, Settings};
 use queues::Queue;
+use record_book::{Entry, Settings};
+use typed_program::Program;
 
 fn take_first(queued: &mut Vec<Queue<Entry>>, place: usize) -> Option<Entry>
     requires { place < length queued.old.items }

@@ -1,6 +1,6 @@
 use context_core::Cell;
-use naive_meaning::Entry;
 use queues::Queue;
+use record_book::Entry;
 use source_actor::Reader;
 
 /// What runs: the contexts by slot, the reader, and for each of these actors the queue of what was sent to it and not yet

@@ -1,6 +1,6 @@
 use Rattle.std.proofs.Common.{◌≡◌, ◌++◌, drop}
 use Rattle.std.specs.List.{flat_map}
-use Rattle.naive_meaning.specs.Report.{line_text}
+use Rattle.record_book.specs.Report.{line_text}
 use Rattle.run_face.proofs.reporting.push_lines.Given as goal
 
 abbrev pub invariant-lines : goal.invariant-lines

@@ -1,6 +1,6 @@
 use Rattle.std.proofs.Common.{◌≡◌, ◌++◌, drop}
 use Rattle.std.specs.List.{flat_map}
-use Rattle.naive_meaning.specs.Report.{escaped}
+use Rattle.record_book.specs.Report.{escaped}
 use Rattle.run_face.proofs.reporting.push_text.Given as goal
 
 abbrev pub invariant-bytes : goal.invariant-bytes

@@ -1,5 +1,5 @@
 use Rattle.std.proofs.Common.{◌≡◌, ◌++◌, drop}
-use Rattle.naive_meaning.specs.Report.{reports_from}
+use Rattle.record_book.specs.Report.{reports_from}
 use Rattle.run_face.proofs.reporting.report.Given as goal
 
 abbrev pub invariant-slots : goal.invariant-slots

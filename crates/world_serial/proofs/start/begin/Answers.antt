@@ -1,7 +1,7 @@
 use Rattle.std.proofs.Common.{◌+◌, ◌∙◌, ap, refl, List, []}
 use Rattle.actor_theory.specs.Machine.{ReaderCell}
-use Rattle.context_meaning.specs.declared.cargo.Cargo.{Cargo}
-use Rattle.naive_meaning.specs.declared.entry.Item.{Item}
+use Rattle.record_book.specs.declared.cargo.Cargo.{Cargo}
+use Rattle.record_book.specs.declared.item.Item.{Item}
 use Rattle.world_serial.proofs.FittingLemmas.{begun-fits}
 use Rattle.world_serial.proofs.StartLemmas.{queues-loaded}
 use Rattle.world_serial.proofs.start.begin.Goals as goal

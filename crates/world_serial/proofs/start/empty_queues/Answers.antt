@@ -1,7 +1,7 @@
 use Rattle.std.proofs.Common.{◌≡◌, ◌∙◌, ◌++◌, ◌∷◌, [], List, ap, ◌+◌, suc, arith, sym}
 use Rattle.actor_theory.specs.declared.entry.Entry.{Entry}
 use Rattle.actor_theory.specs.Machine.{empty_queues}
-use Rattle.context_meaning.specs.declared.cargo.Cargo.{Cargo}
+use Rattle.record_book.specs.declared.cargo.Cargo.{Cargo}
 use Rattle.world_serial.proofs.StartLemmas.{empty-more}
 use Rattle.world_serial.proofs.start.empty_queues.Goals as goal
 

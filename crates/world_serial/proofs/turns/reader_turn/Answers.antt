@@ -1,7 +1,7 @@
 use Rattle.std.proofs.Common.{refl, sym, ◌∙◌, ap}
 use Rattle.actor_theory.specs.Machine.{ReaderCell}
-use Rattle.context_meaning.specs.declared.cargo.Cargo.{Cargo}
-use Rattle.naive_meaning.specs.declared.entry.Item.{Item}
+use Rattle.record_book.specs.declared.cargo.Cargo.{Cargo}
+use Rattle.record_book.specs.declared.item.Item.{Item}
 use Rattle.world_serial.proofs.FittingLemmas.{first-fits, reader-fits, reader-taken, sent-fits}
 use Rattle.world_serial.proofs.TurnLemmas.{no_program, turn-entry, turn-wait, turn-done, turn-item}
 use Rattle.world_serial.proofs.turns.reader_turn.Goals as goal

@@ -1,6 +1,6 @@
 use Rattle.std.proofs.Common.{ap, subst, sym}
 use Rattle.actor_theory.specs.Machine.{Cell}
-use Rattle.context_meaning.specs.declared.cargo.Cargo.{Cargo}
+use Rattle.record_book.specs.declared.cargo.Cargo.{Cargo}
 use Rattle.context_meaning.specs.declared.context.Context.{Context}
 use Rattle.context_meaning.specs.Fits.{ContextFits}
 use Rattle.context_meaning.proofs.Handling.{handle_fits}

@@ -1,5 +1,5 @@
-use crate::entry::Item;
-use context_meaning::{Cargo, Lines};
+use crate::cargo::{Cargo, Lines};
+use crate::item::Item;
 use epl_values::List;
 
 /// What a context receives: the slot of its sender, or the number of contexts for the reader, the number of the

@@ -1,14 +1,14 @@
 -- The report of a record: what each context printed, slot after slot.
-use Rattle.naive_meaning.specs.Common.{ℕ, List, [], Option, Line, Program}
+use Rattle.record_book.specs.Common.{ℕ, List, [], Option, Line, Program}
 use Rattle.std.specs.Prelude.{◌∷◌, ◌++◌, ◌+◌, Bool, ◌==◌, if◌then◌else◌, codes, Some, None, slice_get}
 use Rattle.std.specs.List.{flat_map}
 use Rattle.std.specs.Fmt.{decimal}
 use Rattle.action_host.specs.declared.host.Fault.{Fault}
 use Rattle.action_host.specs.declared.host.Fault.TheVariants as fault
-use Rattle.context_meaning.specs.declared.cargo.Line.TheVariants as line
+use Rattle.record_book.specs.declared.cargo.Line.TheVariants as line
 use Rattle.typed_program.specs.declared.program.Monitor.{Monitor}
-use Rattle.naive_meaning.specs.declared.record.ContextRecord.{ContextRecord}
-use Rattle.naive_meaning.specs.declared.record.Record.{Record}
+use Rattle.record_book.specs.declared.record.ContextRecord.{ContextRecord}
+use Rattle.record_book.specs.declared.record.Record.{Record}
 
 -- a newline is written as a backslash and an n, and a backslash twice
 abbrev pub escaped : ℕ → List ℕ
