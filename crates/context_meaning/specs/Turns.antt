@@ -94,7 +94,7 @@ module _ (program : Program) where
   drained zero c = c
   drained (suc n) c = drained n (unless_spent first_handled c)
 
-  -- the first in front until there is none: each handling takes two of this bound
+  -- the first in front until there is none; each thing that is handled takes fuel, or leaves less in front
   abbrev pub settled : Context → Context
   settled c = drained (2 * c.fuel + front_weight c.front) c
 
