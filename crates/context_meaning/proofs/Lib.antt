@@ -7,3 +7,5 @@ pub mod Ending
 pub mod Turning
 pub mod Handling
 pub mod Kept
+pub mod Paying
+pub mod Weighing
