@@ -9,3 +9,5 @@ pub mod Handling
 pub mod Kept
 pub mod Paying
 pub mod Weighing
+pub mod PayingCalls
+pub mod PayingExprs

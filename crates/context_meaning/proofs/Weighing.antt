@@ -49,16 +49,12 @@ abbrev pub routes : Effect → ℕ
 routes (effect.Route event) = 1
 routes e = 0
 
--- 1 is at most the cost of a value and 1
-cost_and_one : (v : Value) → 1 ≤ cost_of v + 1
-cost_and_one v = let h = value_costs v in omega (arith, h)
-
 -- an event that is routed weighs 1, and all else nothing
 pub routes_weigh : Weighs routes
 routes_weigh = record {
   print = λ text. omega arith;
   log = λ level text. omega arith;
-  route = cost_and_one;
+  route = λ event. let h = value_costs event in omega (arith, h);
   send_channel = λ event channel scene. omega arith;
   send_context = λ event slot. omega arith;
   spawn_here = λ action arguments globals. omega arith;
