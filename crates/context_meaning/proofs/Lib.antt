@@ -11,3 +11,5 @@ pub mod Paying
 pub mod Weighing
 pub mod PayingCalls
 pub mod PayingExprs
+pub mod PayingStmts
+pub mod PayingActs
