@@ -13,3 +13,4 @@ pub mod PayingCalls
 pub mod PayingExprs
 pub mod PayingStmts
 pub mod PayingActs
+pub mod Falling
