@@ -14,3 +14,6 @@ pub mod PayingExprs
 pub mod PayingStmts
 pub mod PayingActs
 pub mod Falling
+pub mod Settling
+pub mod Marks
+pub mod Resting
