@@ -1,6 +1,6 @@
 -- Runs of bodies keep a context's fit, with what stands behind their ends.
 use Rattle.std.proofs.Common.{◌≡◌}
-use Rattle.context_meaning.proofs.Common.{ℕ, List, [], Bool, true, false, not, slice_get, Some, cond_both, All-filter, All-weaker, Value, Program, Monitor, Typed, End, Instance, Listener, Context, instance_of, is_instance, is_busy, is_its, unless_spent, with_some, without_instance, without_listeners, with_act, act_in, come, run_in, last_run, dying, ended, idle, finished, ran, fault_line, InstanceFits, ListenerFits, ContextFits, MayRun}
+use Rattle.context_meaning.proofs.Common.{ℕ, List, [], Bool, true, false, not, slice_get, Some, cond_both, All-filter, All-weaker, Value, Program, Typed, End, Instance, Listener, Context, instance_of, is_instance, is_busy, is_its, with_some, without_instance, without_listeners, act_in, come, run_in, last_run, dying, ended, idle, finished, ran, fault_line, InstanceFits, ListenerFits, ContextFits, MayRun}
 use Rattle.action_host.specs.declared.host.End.TheVariants as end
 use Rattle.context_meaning.proofs.Choosing.{unless_both, with_some_both}
 use Rattle.context_meaning.proofs.Finding.{find_others, others}

@@ -1,6 +1,6 @@
 -- Fuel never grows, neither does twice the fuel with what the row weighs; what waits in front stays, and so do the slot and the slots.
 use Rattle.std.proofs.Common.{◌≡◌, ◌+◌, ◌*◌, ◌≤◌, ◌∷◌, ◌++◌, if◌then◌else◌}
-use Rattle.context_meaning.proofs.Common.{ℕ, List, [], slice_get, Bool, true, false, refl, ◌∙◌, arith, cond_both, Value, Program, Monitor, Effect, End, Act, Instance, Listener, Stimulus, Waiting, Context, behind_charge, births_in, has_instances, instance_of, is_busy, listener_of, scene_of, spend, unless_spent, with_fuel, with_globals, with_instance, with_listener, with_some, without_instance, without_listeners, act_in, apply, apply_all, come, dying, ended, fault_line, finished, idle, last_run, ran, run_in, with_act, body_number, callback_locals, completes, defaults_in, event_of, front_weight, loaded, stepped, stepped_born, stimulated, template_of, turn, weight_of}
+use Rattle.context_meaning.proofs.Common.{ℕ, List, [], slice_get, Bool, true, false, refl, ◌∙◌, arith, cond_both, Value, Program, Monitor, Effect, End, Act, Instance, Listener, Stimulus, Waiting, Context, behind_charge, births_in, has_instances, instance_of, is_busy, listener_of, scene_of, unless_spent, with_fuel, with_globals, with_instance, with_listener, with_some, without_instance, without_listeners, act_in, apply, apply_all, come, dying, ended, fault_line, finished, idle, last_run, ran, run_in, with_act, body_number, callback_locals, completes, defaults_in, event_of, front_weight, loaded, stepped, stepped_born, stimulated, template_of, turn}
 use Rattle.std.specs.List.{sum_by}
 use Rattle.std.proofs.lemmas.List.Sums.{sum_by-cons}
 use Rattle.action_host.specs.declared.host.Effect.TheVariants as effect

@@ -1,6 +1,6 @@
 -- Marks complete no template that is built, so a turn with one changes nothing.
 use Rattle.std.proofs.Common.{◌≡◌, ◌-◌, ◌∷◌, if◌then◌else◌}
-use Rattle.context_meaning.proofs.Common.{ℕ, List, [], Bool, true, false, nat_le, slice_get, refl, ap, ◌∙◌, Value, Program, Listener, Context, births_in, has_instances, listener_of, spend, unless_spent, with_fuel, stepped, stepped_born, stimulated, template_of, turn}
+use Rattle.context_meaning.proofs.Common.{ℕ, List, [], Bool, true, false, nat_le, slice_get, refl, ap, ◌∙◌, Value, Program, Listener, Context, births_in, has_instances, listener_of, spend, with_fuel, stepped, stepped_born, stimulated, template_of, turn}
 use Rattle.context_meaning.specs.Contexts.{paid}
 use Rattle.context_meaning.specs.declared.context.Stimulus.TheVariants as stimulus
 use Rattle.context_meaning.proofs.Choosing.{unless_both, with_some_same}

@@ -4,8 +4,7 @@ use Rattle.context_meaning.proofs.Common.{ℕ, Bool, false, List, [], Value, Val
 use Rattle.epl_values.specs.declared.value.Value.TheOpen as layer
 use Rattle.epl_values.specs.declared.value.Value.TheVariants as value
 use Rattle.typed_program.specs.declared.expression.Method.TheVariants as method
-use Rattle.action_host.specs.declared.host.Effect.TheVariants as effect
-use Rattle.body_meaning.specs.Values.{birth_of, letters_of}
+use Rattle.body_meaning.specs.Values.{birth_of}
 use Rattle.body_meaning.specs.Effects.{channel_cost, context_cost, listen_cost, print, log, route, send, send_in, send_channel, send_context, spawn_here, spawn_there, globals_then, spawn_in, spawn_to, subscribe, unsubscribe, make, make_context, current, listen}
 use Rattle.body_meaning.specs.Methods.{text_charged, value_charged, substring_charged, place_charged, quit, change_lost, called}
 use Rattle.context_meaning.proofs.Paying.{Pays, Owes, owes_bind, owes_charged, owes_charged_by, owes_less, owes_perform, pays_pure, pays_given, pays_look, pays_charge, pays_charged_by, pays_perform, pays_by_scene, pays_bind, pays_seq}

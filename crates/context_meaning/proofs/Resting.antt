@@ -1,6 +1,6 @@
 -- What handlings leave: an empty row, no more fuel, and the same slot and slots.
 use Rattle.std.proofs.Common.{◌≡◌, ◌+◌, ◌*◌, ◌≤◌, ◌∷◌}
-use Rattle.context_meaning.proofs.Common.{ℕ, zero, suc, List, [], nat_lt, refl, ◌∙◌, arith, cond_both, Program, Cargo, Waiting, Context, spend, unless_spent, with_front, cargo_handled, drained, first_handled, front_handled, front_weight, handle, last_number, loaded, settled, stimulated, stimulus_of, thing_handled}
+use Rattle.context_meaning.proofs.Common.{ℕ, zero, suc, List, [], nat_lt, refl, ◌∙◌, arith, cond_both, Program, Cargo, Waiting, Context, spend, unless_spent, with_front, cargo_handled, drained, first_handled, front_handled, front_weight, handle, last_number, settled, stimulus_of, thing_handled}
 use Rattle.record_book.specs.declared.cargo.Cargo.TheVariants as cargo
 use Rattle.context_meaning.specs.declared.context.Waiting.TheVariants as waiting
 use Rattle.context_meaning.proofs.Choosing.{unless_both}

@@ -1,6 +1,6 @@
 -- Turns of listeners, stimuli and new instances keep a context's fit.
 use Rattle.std.proofs.Common.{◌≡◌, ◌+◌, ◌<◌, ◌≤◌, ◌∷◌, ◌++◌, if◌then◌else◌}
-use Rattle.context_meaning.proofs.Common.{ℕ, List, [], map, length, slice_get, true, Some, Contains, ⊎_elim, refl, sym, ap, subst, arith, list_all, and_parts, cond_both, eqb-true, Option, slice_get_within, All-contains, All-push, All-weaker, Value, Program, Monitor, Global, Site, TemplateShape, stands, ends_plain, runs_plain, Typed, default_of, AllFit, fit_nil, fit_cons, default_fits, GlobalsFit, Instance, Listener, Stimulus, Context, behind_charge, births_in, has_instances, instance_of, is_born, is_instance, listener_of, unless_spent, with_fuel, with_instance, with_some, ran, body_number, callback_locals, completes, defaults_in, event_of, loaded, stepped, stepped_born, stimulated, template_of, turn, InstanceFits, ListenerFits, ContextFits, MayRun, StimulusFits}
+use Rattle.context_meaning.proofs.Common.{ℕ, List, [], map, length, slice_get, true, Some, Contains, ⊎_elim, sym, ap, subst, arith, list_all, and_parts, cond_both, eqb-true, Option, slice_get_within, All-contains, All-push, All-weaker, Value, Program, Monitor, Global, Site, TemplateShape, stands, ends_plain, runs_plain, Typed, default_of, AllFit, fit_nil, fit_cons, default_fits, GlobalsFit, Instance, Listener, Stimulus, Context, behind_charge, births_in, has_instances, instance_of, is_born, is_instance, listener_of, unless_spent, with_fuel, with_instance, with_some, ran, body_number, callback_locals, completes, defaults_in, event_of, loaded, stepped, stepped_born, stimulated, template_of, turn, InstanceFits, ListenerFits, ContextFits, MayRun, StimulusFits}
 use Rattle.typed_program.specs.Programs.{global_shapes, global_so, initial_so}
 use Rattle.context_meaning.proofs.Choosing.{charge_both, unless_both, with_some_both}
 use Rattle.context_meaning.proofs.Finding.{find_contains, find_push, number_is}
