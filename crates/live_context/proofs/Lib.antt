@@ -1,0 +1,3 @@
+mod Common
+pub mod Places
+pub mod Lending
