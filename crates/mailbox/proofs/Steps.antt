@@ -7,10 +7,10 @@ use Rattle.std.proofs.Math.Seq.{get_or-append_seam}
 use Rattle.std.proofs.lemmas.List.{length-append}
 use mathlib.Core.Option.{Option, some, none, some-injective, some-ne-none}
 use lib.ListN.{get_elem?}
-use Rattle.crossbeam_queue.specs.Fifo.{Pushes, Pops, Forks, Merges}
+use Rattle.crossbeam_queue.specs.Fifo.{Pushes, Pops, Forks, Merges, Learns}
 use Rattle.crossbeam_queue.proofs.Lists.{at_set, set_else}
 use Rattle.mailbox.specs.declared.rule.View.{View}
-use Rattle.mailbox.specs.Rule.{with_entry, opening, opened_one, newcomer, handed_one, spent, FitsSender, FitsTaker, of, Kept}
+use Rattle.mailbox.specs.Rule.{with_entry, opening, opened_one, newcomer, handed_one, spent, FitsSender, FitsTaker, of, Kept, Allowed}
 
 -- the last place of a longer list
 at_end : {A : Type 0} (l : List A) (a b : A) (j : ℕ) → get_elem? (l ++ a ∷ []) j ≡ some b → (get_elem? l j ≡ some b) ⊎ ((j ≡ length l) × (a ≡ b))
@@ -149,6 +149,18 @@ module _ {E : Type 0} where
           },
           refl,
         )
+
+    -- what a pass may learn at a moment
+    looks : (pass : ℕ) (v : View E) → Learns (Kept sender_of) pass v (Allowed sender_of v)
+    looks pass v items views h at = record { views = views; pass = pass; kept = h; is = at }
+
+    -- what a call that posts owes
+    pub posting : (n pass : ℕ) (v : View E) (x : E) → v.sends ≡ true → sender_of x ≡ v.number → Pushes (Kept sender_of) n pass v x (λ w. w ≡ with_entry v x) × Learns (Kept sender_of) pass v (Allowed sender_of v)
+    posting n pass v x sends from = (posts n pass v x sends from, looks pass v)
+
+    -- what a call that takes owes
+    pub taking : (pass : ℕ) (v : View E) → v.takes ≡ true → Pops (Kept sender_of) pass v (λ x w. w ≡ with_entry v x) × Learns (Kept sender_of) pass v (Allowed sender_of v)
+    taking pass v may = (takes pass v may, looks pass v)
 
     -- a number that is free is no other pass's
     apart : (seat : ℕ → Option ℕ) (p q pass : ℕ) → seat p ≡ none → seat q ≡ some pass → q ≡ p → ⊥

@@ -30,10 +30,10 @@ impl<E: Sent> Mailbox<E> {
         ensures ok { OnOk result (sender_view pass.new ≡ with_entry (sender_view pass.old) entry) }
         ensures full { IfErr result (λ full. (full.entry ≡ entry) × (sender_view pass.new ≡ sender_view pass.old) × Held (capacity_of self.now) (Allowed E.sender_of (sender_view pass.old))) }
     {
-        match self
+        let posted = self
             .queue
-            .push_as::<Orderly<E>, R>(rt, &mut pass.pass, entry)
-        {
+            .push_as::<Orderly<E>, R>(rt, &mut pass.pass, entry);
+        match posted {
             Ok(()) => Ok(()),
             Err(entry) => Err(Full { entry }),
         }
@@ -45,7 +45,8 @@ impl<E: Sent> Mailbox<E> {
         ensures pass { IsTakerOf self.now pass.new }
         ensures taken { MatchResult result (λ entry. taker_view pass.new ≡ with_entry (taker_view pass.old) entry) (λ _. (taker_view pass.new ≡ taker_view pass.old) × Held 0 (Allowed E.sender_of (taker_view pass.old))) }
     {
-        match self.queue.pop_as::<Orderly<E>, R>(rt, &mut pass.pass) {
+        let taken = self.queue.pop_as::<Orderly<E>, R>(rt, &mut pass.pass);
+        match taken {
             Some(entry) => Ok(entry),
             None => Err(Empty),
         }
