@@ -13,15 +13,17 @@ pub use Rattle.body_meaning.specs.Runs.{Ended, M, Outcome, Went}
 pub use Rattle.body_meaning.specs.Statements.{body_of}
 pub use Rattle.body_meaning.specs.declared.run.Flow.{Flow}
 pub use Rattle.body_meaning.specs.declared.run.Move.{Move}
-pub use Rattle.context_meaning.specs.Contexts.{apply, apply_all, charged, instance_of, is_busy, is_instance, put_globals, scene_of, spend, unless_spent, with_globals, with_instance, with_listener, without_instance, without_listeners}
-pub use Rattle.context_meaning.specs.Ends.{act_in, dying, fault_line, finished, idle, last_run, ondie_of, ran, run_in, taken}
-pub use Rattle.context_meaning.specs.Fits.{ContextFits, InstanceFits, ListenerFits, MayRun}
+pub use Rattle.context_meaning.specs.Contexts.{Context, behind_charge, births_in, has_instances, in_row, instance_of, is_born, is_busy, is_instance, is_its, listener_of, put_globals, row_in_front, scene_of, spend, unless_spent, with_front, with_fuel, with_globals, with_instance, with_line, with_listener, with_some, without_birth, without_instance, without_listeners}
+pub use Rattle.context_meaning.specs.Ends.{act_in, apply, apply_all, come, dying, ended, fault_line, finished, idle, last_run, ran, run_in, with_act}
+pub use Rattle.context_meaning.specs.Fits.{ContextFits, InstanceFits, ListenerFits, MayRun, StimulusFits, WaitingFits}
 pub use Rattle.record_book.specs.Fits.{CargoFits}
-pub use Rattle.context_meaning.specs.Turns.{begun, births_in, body_number, callback_locals, completed, defaults_in, drained, event_handled, first_handled, fits, front_handled, handled, is_born, is_empty, load_handled, rowed, settled, stepped, stepped_born, stepped_found, template_of}
+pub use Rattle.context_meaning.specs.Listening.{callback_locals, completes, event_of, template_of}
+pub use Rattle.context_meaning.specs.Turns.{body_number, cargo_handled, defaults_in, drained, first_handled, front_handled, front_weight, handle, last_number, loaded, marks_of, settled, stepped, stepped_born, stimulated, stimulus_of, thing_handled, turn, weight_of}
 pub use Rattle.record_book.specs.declared.cargo.Cargo.{Cargo}
-pub use Rattle.context_meaning.specs.declared.context.Context.{Context}
 pub use Rattle.context_meaning.specs.declared.context.Instance.{Instance}
 pub use Rattle.context_meaning.specs.declared.context.Listener.{Listener}
+pub use Rattle.context_meaning.specs.declared.context.Stimulus.{Stimulus}
+pub use Rattle.context_meaning.specs.declared.context.Waiting.{Waiting}
 pub use Rattle.epl_values.specs.declared.shape.EventShape.{EventShape}
 pub use Rattle.epl_values.specs.declared.shape.Shape.{Shape}
 pub use Rattle.epl_values.specs.declared.value.Pair.{Pair}

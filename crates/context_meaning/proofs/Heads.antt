@@ -1,5 +1,5 @@
 -- Which bodies may run in an instance: `onload` and `ondie` of its monitor, and the callbacks of its listeners.
-use Rattle.context_meaning.proofs.Common.{ℕ, zero, suc, List, [], map, length, slice_get, Bool, true, Option, Some, None, refl, sym, ap, subst, ◌∙◌, arith, find, list_all, and_parts, eqb-true, cond_both, same_Some, slice_get_within, Shape, EventShape, Value, Value-F, out-Value, Pair, Program, Action, Monitor, Site, TemplateShape, Term, stands, ends_plain, runs_plain, Typed, default_of, AllFit, fit_nil, fit_cons, default_fits, head_of, Instance, Listener, is_instance, ondie_of, body_number, callback_locals, fits, template_of, ListenerFits, MayRun}
+use Rattle.context_meaning.proofs.Common.{ℕ, zero, suc, List, [], map, length, slice_get, Bool, true, Option, Some, None, refl, sym, ap, subst, ◌∙◌, arith, find, list_all, and_parts, eqb-true, cond_both, same_Some, slice_get_within, Shape, EventShape, Value, Value-F, out-Value, Pair, Program, Action, Monitor, Site, TemplateShape, Term, stands, ends_plain, runs_plain, Typed, default_of, AllFit, fit_nil, fit_cons, default_fits, head_of, Instance, Listener, Stimulus, is_instance, body_number, callback_locals, completes, event_of, template_of, ListenerFits, MayRun, StimulusFits}
 use Rattle.std.proofs.Common.{◌≡◌, ◌+◌, ◌-◌, ◌≤◌, ◌∷◌, ◌++◌, option_map}
 use Rattle.std.proofs.lemmas.Bool.{and_from, lt-ltb, le-ltb, cond-true, cond-false}
 use Rattle.std.proofs.lemmas.Option.{slice_get-map, cond_some}
@@ -16,7 +16,8 @@ use Rattle.value_shapes.specs.Fits.{Fit, IsEvent}
 use Rattle.value_shapes.proofs.Lists.{fit_append}
 use Rattle.value_shapes.proofs.Same.{same_is}
 use Rattle.typed_runs.specs.Bodies.{action_head, callback_head}
-use Rattle.context_meaning.specs.Turns.{binds_at, bound_from, is_of_type, is_plain as asks_nothing, plain_in, template_in, type_in}
+use Rattle.context_meaning.specs.Listening.{binds_at, bound_from, is_of_type, is_plain as asks_nothing, plain_in, template_in, type_in}
+use Rattle.context_meaning.specs.declared.context.Stimulus.TheVariants as stimulus
 
 -- ---- lists of which all pass a test
 
@@ -61,6 +62,11 @@ name_shape types operands event bs (Some n) k b so is h = same_is (shape.Event e
 event_is : (types : List EventShape) (n : ℕ) (v : Value) (l : Value-F Value Pair) → is_of_type n (type_in l) ≡ true → IsEvent types v l → Fit types v (shape.Event n)
 event_is types n v (layer.Event m fields) h f = subst (λ k. Fit types v (shape.Event k)) (eqb-true m n h) f
 event_is types n v l h f = absurd f
+
+-- the event of a stimulus that completes a template is of the template's type
+stimulus_is : (types : List EventShape) (t : TemplateShape) (s : Stimulus) → completes t s ≡ true → IsEvent types (event_of s) (out-Value (event_of s)) → Fit types (event_of s) (shape.Event t.event)
+stimulus_is types t (stimulus.Event e) h f = event_is types t.event e (out-Value e) h f
+stimulus_is types t (stimulus.Completed e) h f = cc
 
 -- the name that a template binds
 binds_is : (o : Option ℕ) (n : ℕ) → binds_at o n ≡ true → o ≡ Some n
@@ -108,13 +114,12 @@ module _ (program : Program) (typed : Typed program) where
       record { head = action_head there.0; is = head_action n there.0 there.1; same = parts.1 ∙ sym is; locals_fit = subst (λ ps. AllFit program.types [] ps) (sym parts.0) (fit_nil program.types) }
 
   -- `ondie` of a monitor takes nothing
-  ondie_plain : (n body : ℕ) (o : Option Monitor) → slice_get program.monitors n ≡ o → ondie_of program o ≡ Some body → runs_plain program n body ≡ true
-  ondie_plain n body None there is = cc
-  ondie_plain n body (Some m) there is = subst (λ o. ends_plain program n o ≡ true) is (and_parts _ (ends_plain program n m.ondie) (monitor_there n m there)).1
+  ondie_plain : (n body : ℕ) (m : Monitor) → slice_get program.monitors n ≡ Some m → m.ondie ≡ Some body → runs_plain program n body ≡ true
+  ondie_plain n body m there is = subst (λ o. ends_plain program n o ≡ true) is (and_parts _ (ends_plain program n m.ondie) (monitor_there n m there)).1
 
   -- `ondie` of a monitor may run in its instances
-  pub ondie_may : (monitor body : ℕ) (j : Instance) → ondie_of program (slice_get program.monitors monitor) ≡ Some body → j.monitor ≡ monitor → MayRun program body [] j
-  ondie_may monitor body j is same = plain_may monitor body j (ondie_plain monitor body (slice_get program.monitors monitor) refl is) same
+  pub ondie_may : (n : ℕ) (m : Monitor) (body : ℕ) (j : Instance) → slice_get program.monitors n ≡ Some m → m.ondie ≡ Some body → j.monitor ≡ n → MayRun program body [] j
+  ondie_may n m body j there is same = plain_may n body j (ondie_plain n body m there is) same
 
   -- and so may `onload`
   pub onload_may : (n : ℕ) (m : Monitor) (j : Instance) → slice_get program.monitors n ≡ Some m → j.monitor ≡ n → MayRun program m.onload [] j
@@ -151,21 +156,21 @@ module _ (program : Program) (typed : Typed program) where
       cond-false _ _ _ (le-ltb (length program.actions + n) (length program.actions) past) ∙ ap (option_map callback_head) (ap (slice_get program.sites) back ∙ h)
 
   -- the locals that a callback begins with have the shapes of its parameters
-  locals_of : (site : Site) (captured : List Value) (t : TemplateShape) (e : Value) → site_so program site ≡ true → AllFit program.types captured (map (λ (c : Local). c.shape) site.captured) → template_of site.term ≡ Some t → fits t e ≡ true → IsEvent program.types e (out-Value e) → AllFit program.types (callback_locals program.types t site captured e) (callback_head site).params
-  locals_of site captured t e so held is fit event =
+  locals_of : (site : Site) (captured : List Value) (t : TemplateShape) (s : Stimulus) → site_so program site ≡ true → AllFit program.types captured (map (λ (c : Local). c.shape) site.captured) → template_of site.term ≡ Some t → completes t s ≡ true → StimulusFits program s → AllFit program.types (callback_locals program.types t site captured (event_of s)) (callback_head site).params
+  locals_of site captured t s so held is fit event =
       let parts = site_parts site so in
       let around = site_around program site in
       let binds = (and_parts _ (binds_so around t.event t.binds) (and_parts _ _ (template_there around site.term t parts.0 is)).0).1 in
-      fit_append program.types captured (bound_from program.types t.binds e 0 site.bound) (map (λ (c : Local). c.shape) site.captured) (map (λ (b : Local). b.shape) site.bound) held
-      (bound_fits e t.binds 0 site.bound parts.1 (λ k b at there. let same : 0 + k ≡ k = omega arith in subst (Fit program.types e) (name_shape program.types around.operands t.event site.bound t.binds k b binds (at ∙ ap Some same) there) (event_is program.types t.event e (out-Value e) fit event)))
+      fit_append program.types captured (bound_from program.types t.binds (event_of s) 0 site.bound) (map (λ (c : Local). c.shape) site.captured) (map (λ (b : Local). b.shape) site.bound) held
+      (bound_fits (event_of s) t.binds 0 site.bound parts.1 (λ k b at there. let same : 0 + k ≡ k = omega arith in subst (Fit program.types (event_of s)) (name_shape program.types around.operands t.event site.bound t.binds k b binds (at ∙ ap Some same) there) (stimulus_is program.types t s fit event)))
 
   -- the callback of a listener may run in its instance, with what it took along and the event
-  pub callback_may : (begun : ℕ) (instances : List Instance) (l : Listener) (site : Site) (t : TemplateShape) (e : Value) (i : Instance) → ListenerFits program begun instances l → slice_get program.sites l.site ≡ Some site → template_of site.term ≡ Some t → fits t e ≡ true → IsEvent program.types e (out-Value e) → find (is_instance l.instance) instances ≡ Some i → MayRun program (body_number program l.site) (callback_locals program.types t site l.captured e) i
-  callback_may begun instances l site t e i f there is fit event found =
+  pub callback_may : (begun : ℕ) (instances : List Instance) (l : Listener) (site : Site) (t : TemplateShape) (s : Stimulus) (i : Instance) → ListenerFits program begun instances l → slice_get program.sites l.site ≡ Some site → template_of site.term ≡ Some t → completes t s ≡ true → StimulusFits program s → find (is_instance l.instance) instances ≡ Some i → MayRun program (body_number program l.site) (callback_locals program.types t site l.captured (event_of s)) i
+  callback_may begun instances l site t s i f there is fit event found =
       let one = same_Some f.site site (sym f.there ∙ there) in
       record {
         head = callback_head site;
         is = head_callback l.site site there;
-        same = sym (f.monitor i found ∙ ap (λ (s : Site). s.monitor) one);
-        locals_fit = locals_of site l.captured t e (site_there l.site site there) (subst (λ (s : Site). AllFit program.types l.captured (map (λ (c : Local). c.shape) s.captured)) one f.captured) is fit event;
+        same = sym (f.monitor i found ∙ ap (λ (o : Site). o.monitor) one);
+        locals_fit = locals_of site l.captured t s (site_there l.site site there) (subst (λ (o : Site). AllFit program.types l.captured (map (λ (c : Local). c.shape) o.captured)) one f.captured) is fit event;
       }

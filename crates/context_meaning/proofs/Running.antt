@@ -1,15 +1,13 @@
 -- What a run comes to keeps a context's fit.
-use Rattle.std.proofs.Common.{◌≡◌, ◌+◌, ◌<◌, ◌≤◌, ◌∷◌, ◌++◌, if◌then◌else◌}
-use Rattle.context_meaning.proofs.Common.{ℕ, List, [], filter, slice_get, Bool, true, false, Option, Some, None, All, refl, sym, ap, subst, ◌∙◌, arith, same_Some, All-head, All-tail, All-filter, All-push, All-weaker, Value, out-Value, Program, Site, Typed, Effect, Scene, Outcome, Went, Ended, Act, act_of, come_to, AllFit, head_of, GlobalsFit, Instance, Listener, Context, instance_of, is_instance, scene_of, spend, put_globals, with_globals, with_listener, apply, apply_all, taken, act_in, InstanceFits, ListenerFits, ContextFits, MayRun}
+use Rattle.std.proofs.Common.{◌≡◌, ◌+◌, ◌≤◌, ◌∷◌, if◌then◌else◌}
+use Rattle.context_meaning.proofs.Common.{ℕ, List, [], filter, slice_get, Bool, true, false, Option, Some, None, All, refl, sym, ap, subst, ◌∙◌, same_Some, All-head, All-tail, All-filter, All-push, All-weaker, Value, Program, Site, Typed, Effect, Scene, Outcome, Went, Ended, Act, act_of, come_to, AllFit, head_of, GlobalsFit, Instance, Listener, Waiting, Context, in_row, instance_of, is_instance, scene_of, spend, put_globals, with_fuel, with_globals, with_line, with_listener, apply, apply_all, with_act, act_in, InstanceFits, ListenerFits, ContextFits, MayRun, WaitingFits}
 use Rattle.action_host.specs.declared.host.Effect.TheVariants as effect
 use Rattle.body_meaning.specs.Acts.{act}
-use Rattle.value_shapes.specs.Fits.{IsEvent}
 use Rattle.typed_runs.specs.Bodies.{Head}
 use Rattle.typed_runs.specs.Kept.{RunFits, EffectFits, ListenFits}
 use Rattle.record_book.specs.declared.cargo.Line.{Line}
-use Rattle.context_meaning.specs.Contexts.{with_line}
+use Rattle.context_meaning.specs.declared.context.Waiting.TheVariants as waiting
 use Rattle.context_meaning.proofs.Finding.{find_all, find_put, all_put, number_is}
-use Rattle.context_meaning.proofs.Births.{ascend_push, ascend_filter}
 
 -- the law of runs: a run of a body of a typed program leaves globals of their shapes, and its effects carry what they are to carry
 abbrev pub RunsKeepShapes : Type 0
@@ -34,32 +32,30 @@ module _ (program : Program) where
   -- ---- small changes
 
   -- other fuel, lines or end
-  pub fuel_fits : (c : Context) (fuel : ℕ) → ContextFits program c → ContextFits program (record c { fuel = fuel })
-  fuel_fits c fuel f = record { instances = f.instances; listeners = f.listeners; births = f.births; born = f.born; row = f.row; front = f.front }
+  pub fuel_fits : (c : Context) (fuel : ℕ) → ContextFits program c → ContextFits program (with_fuel fuel c)
+  fuel_fits c fuel f = record { instances = f.instances; listeners = f.listeners; row = f.row; front = f.front }
 
   -- a context that is spent
   pub spend_fits : (c : Context) → ContextFits program c → ContextFits program (spend c)
-  spend_fits c f = record { instances = f.instances; listeners = f.listeners; births = f.births; born = f.born; row = f.row; front = f.front }
+  spend_fits c f = record { instances = f.instances; listeners = f.listeners; row = f.row; front = f.front }
 
   -- one line more
   pub line_fits : (l : Line) (c : Context) → ContextFits program c → ContextFits program (with_line l c)
-  line_fits l c f = record { instances = f.instances; listeners = f.listeners; births = f.births; born = f.born; row = f.row; front = f.front }
+  line_fits l c f = record { instances = f.instances; listeners = f.listeners; row = f.row; front = f.front }
 
   -- fewer listeners
   pub filter_fits : (p : Listener → Bool) (c : Context) → ContextFits program c → ContextFits program (record c { listeners = filter p c.listeners })
-  filter_fits p c f = record { instances = f.instances; listeners = All-filter p (ListenerFits program c.begun c.instances) c.listeners f.listeners; births = ascend_filter p c.listeners f.births; born = All-filter p (λ (l : Listener). l.birth ≤ c.births) c.listeners f.born; row = f.row; front = f.front }
+  filter_fits p c f = record { instances = f.instances; listeners = All-filter p (ListenerFits program c.begun c.instances) c.listeners f.listeners; row = f.row; front = f.front }
 
-  -- one more event in the row
-  pub row_fits : (e : Value) (c : Context) → IsEvent program.types e (out-Value e) → ContextFits program c → ContextFits program (record c { row = c.row ++ e ∷ [] })
-  row_fits e c h f = record { instances = f.instances; listeners = f.listeners; births = f.births; born = f.born; row = All-push (λ (v : Value). IsEvent program.types v (out-Value v)) c.row e f.row h; front = f.front }
+  -- one thing more in the row
+  pub row_fits : (w : Waiting) (c : Context) → WaitingFits program w → ContextFits program c → ContextFits program (in_row w c)
+  row_fits w c h f = record { instances = f.instances; listeners = f.listeners; row = All-push (WaitingFits program) c.row w f.row h; front = f.front }
 
   -- one more listener, in the instance with this number
   pub listener_fits : (at site : ℕ) (captured : List Value) (c : Context) → ListenerFits program c.begun c.instances (record { birth = c.births + 1; instance = at; site = site; captured = captured }) → ContextFits program c → ContextFits program (with_listener at site captured c)
   listener_fits at site captured c h f = record {
     instances = f.instances;
     listeners = All-push (ListenerFits program c.begun c.instances) c.listeners _ f.listeners h;
-    births = ascend_push c.listeners _ f.births (All-weaker (λ (l : Listener). l.birth ≤ c.births) (λ (l : Listener). l.birth < c.births + 1) (λ l k. omega arith) c.listeners f.born);
-    born = All-push (λ (l : Listener). l.birth ≤ c.births + 1) c.listeners _ (All-weaker (λ (l : Listener). l.birth ≤ c.births) (λ (l : Listener). l.birth ≤ c.births + 1) (λ l k. omega arith) c.listeners f.born) (omega arith);
     row = f.row;
     front = f.front;
   }
@@ -82,7 +78,7 @@ module _ (program : Program) where
   apply_runs at of ending (effect.Log level text) c h r = record { fits = line_fits _ c r.fits; begun = r.begun; same = r.same }
   apply_runs at of ending (effect.Listen site operands captured) c h r = listening_runs at of site operands captured ending c h r
   apply_runs at of ending (effect.Quit birth) c h r = record { fits = filter_fits _ c r.fits; begun = r.begun; same = r.same }
-  apply_runs at of ending (effect.Route event) c h r = record { fits = row_fits event c h r.fits; begun = r.begun; same = r.same }
+  apply_runs at of ending (effect.Route event) c h r = record { fits = row_fits (waiting.Event event) c h r.fits; begun = r.begun; same = r.same }
   apply_runs at of ending other c h r = r
 
   -- all of them
@@ -97,8 +93,6 @@ module _ (program : Program) where
   globals_fit at of globals c g r = record {
     instances = all_put (InstanceFits program c.begun) at globals c.instances r.fits.instances (λ i found. let old = find_all (InstanceFits program c.begun) (is_instance at) c.instances i r.fits.instances found in record { number = old.number; monitor = old.monitor; globals = subst (λ m. GlobalsFit program m globals) (sym (r.same i found)) g });
     listeners = All-weaker (ListenerFits program c.begun c.instances) (ListenerFits program c.begun (put_globals at globals c.instances)) (λ l h. record { instance = h.instance; site = h.site; there = h.there; captured = h.captured; monitor = λ i found. let old = find_put at l.instance globals c.instances i found in sym old.2 ∙ h.monitor old.0 old.1 }) c.listeners r.fits.listeners;
-    births = r.fits.births;
-    born = r.fits.born;
     row = r.fits.row;
     front = r.fits.front;
   }
@@ -108,12 +102,12 @@ module _ (program : Program) where
   globals_run at of globals c g r = record { fits = globals_fit at of globals c g r; begun = r.begun; same = λ i found. let old = find_put at at globals c.instances i found in sym old.2 ∙ r.same old.0 old.1 }
 
   -- other fuel
-  pub fuel_runs : (at of fuel : ℕ) (c : Context) → RunsIn program at of c → RunsIn program at of (record c { fuel = fuel })
+  pub fuel_runs : (at of fuel : ℕ) (c : Context) → RunsIn program at of c → RunsIn program at of (with_fuel fuel c)
   fuel_runs at of fuel c r = record { fits = fuel_fits c fuel r.fits; begun = r.begun; same = r.same }
 
   -- what a run came to
-  pub taken_runs : (at of : ℕ) (ending : Bool) (act : Act) (c : Context) → ActFits program of act → RunsIn program at of c → RunsIn program at of (taken at ending act c)
-  taken_runs at of ending act c h r = apply_all_runs at of ending act.effects (with_globals at act.globals (record c { fuel = act.scene.fuel })) h.1 (globals_run at of act.globals (record c { fuel = act.scene.fuel }) h.0 (fuel_runs at of act.scene.fuel c r))
+  pub act_runs : (at of : ℕ) (ending : Bool) (act : Act) (c : Context) → ActFits program of act → RunsIn program at of c → RunsIn program at of (with_act at ending act c)
+  act_runs at of ending act c h r = apply_all_runs at of ending act.effects (with_globals at act.globals (with_fuel act.scene.fuel c)) h.1 (globals_run at of act.globals (with_fuel act.scene.fuel c) h.0 (fuel_runs at of act.scene.fuel c r))
 
   -- an instance that is found
   pub found_fits : (n : ℕ) (c : Context) (i : Instance) → ContextFits program c → instance_of n c ≡ Some i → InstanceFits program c.begun i
@@ -124,18 +118,6 @@ module _ (program : Program) (typed : Typed program) (law : RunsKeepShapes) wher
   pub act_fits : (body : ℕ) (head : Head) → head_of program body ≡ Some head → (globals locals : List Value) → GlobalsFit program head.monitor globals → AllFit program.types locals head.params → (scene : Scene) (draws : List ℕ) → ActFits program head.monitor (act_of program body globals locals scene draws)
   act_fits body head is globals locals g l scene draws = come_fits program head.monitor _ (law program typed body head is globals locals g l scene draws)
 
-  -- an effect of a body of the instance's monitor keeps the fit
-  pub apply_fits : (at of : ℕ) (ending : Bool) (e : Effect) (c : Context) → EffectFits program of e → RunsIn program at of c → ContextFits program (apply at ending e c)
-  apply_fits at of ending e c h r = (apply_runs program at of ending e c h r).fits
-
-  -- all of them
-  pub apply_all_fits : (at of : ℕ) (ending : Bool) (es : List Effect) (c : Context) → All (EffectFits program of) es → RunsIn program at of c → ContextFits program (apply_all at ending es c)
-  apply_all_fits at of ending es c h r = (apply_all_runs program at of ending es c h r).fits
-
-  -- what a run came to
-  pub taken_fits : (at of : ℕ) (ending : Bool) (act : Act) (c : Context) → ActFits program of act → RunsIn program at of c → ContextFits program (taken at ending act c)
-  taken_fits at of ending act c h r = (taken_runs program at of ending act c h r).fits
-
   -- what a body that may run in an instance comes to there
   pub act_in_fits : (ending : Bool) (body : ℕ) (locals : List Value) (number : ℕ) (i : Instance) (c : Context) → ContextFits program c → instance_of number c ≡ Some i → MayRun program body locals i → ActFits program i.monitor (act_in program ending body locals i c)
   act_in_fits ending body locals number i c f found may = subst (λ m. ActFits program m (act_in program ending body locals i c)) may.same (act_fits body may.head may.is i.globals locals (subst (λ m. GlobalsFit program m i.globals) (sym may.same) (found_fits program number c i f found).globals) may.locals_fit (scene_of ending c) [])
@@ -145,9 +127,5 @@ module _ (program : Program) (typed : Typed program) (law : RunsKeepShapes) wher
   found_runs number i c f found = record { fits = f; begun = (found_fits program number c i f found).number; same = λ j other. ap (λ (o : Instance). o.monitor) (same_Some j i (sym other ∙ ap (λ n. instance_of n c) (number_is number c.instances i found) ∙ found)) }
 
   -- a run of a body in an instance, and what is known of the instance behind it
-  pub run_runs : (ending : Bool) (body : ℕ) (locals : List Value) (number : ℕ) (i : Instance) (c : Context) → ContextFits program c → instance_of number c ≡ Some i → MayRun program body locals i → RunsIn program i.number i.monitor (taken i.number ending (act_in program ending body locals i c) c)
-  run_runs ending body locals number i c f found may = taken_runs program i.number i.monitor ending (act_in program ending body locals i c) c (act_in_fits ending body locals number i c f found may) (found_runs number i c f found)
-
-  -- a run of a body in an instance
-  pub run_fits : (ending : Bool) (body : ℕ) (locals : List Value) (number : ℕ) (i : Instance) (c : Context) → ContextFits program c → instance_of number c ≡ Some i → MayRun program body locals i → ContextFits program (taken i.number ending (act_in program ending body locals i c) c)
-  run_fits ending body locals number i c f found may = (run_runs ending body locals number i c f found may).fits
+  pub run_runs : (ending : Bool) (body : ℕ) (locals : List Value) (number : ℕ) (i : Instance) (c : Context) → ContextFits program c → instance_of number c ≡ Some i → MayRun program body locals i → RunsIn program i.number i.monitor (with_act i.number ending (act_in program ending body locals i c) c)
+  run_runs ending body locals number i c f found may = act_runs program i.number i.monitor ending (act_in program ending body locals i c) c (act_in_fits ending body locals number i c f found may) (found_runs number i c f found)

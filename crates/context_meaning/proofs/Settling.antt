@@ -1,39 +1,47 @@
--- What waits in front is settled: each event that is handled leaves less fuel or fewer in front.
-use Rattle.std.proofs.Common.{◌≡◌, ◌+◌, ◌<◌, ◌≤◌, ◌∷◌, if◌then◌else◌, ◌-◌, ◌⊎◌}
-use Rattle.context_meaning.proofs.Common.{ℕ, zero, suc, List, [], length, length-append, Bool, true, false, inl, inr, ⊎_elim, refl, sym, ap, ◌∙◌, arith, Value, Program, Context, unless_spent, drained, event_handled, first_handled, front_handled, rowed, settled}
-use Rattle.context_meaning.proofs.Falling.{Falls, event_falls}
+-- What waits in front is settled: each thing that is handled leaves less of twice the fuel and what waits.
+use Rattle.std.proofs.Common.{◌≡◌, ◌+◌, ◌*◌, ◌<◌, ◌≤◌, ◌∷◌, ◌++◌, if◌then◌else◌, ◌-◌, ◌⊎◌}
+use Rattle.context_meaning.proofs.Common.{ℕ, zero, suc, List, [], length, Bool, true, false, inl, inr, ⊎_elim, refl, sym, ap, ◌∙◌, arith, Program, Waiting, Context, row_in_front, unless_spent, with_front, drained, first_handled, front_handled, front_weight, marks_of, settled, stimulated, stimulus_of, weight_of}
+use Rattle.context_meaning.specs.declared.context.Waiting.TheVariants as waiting
+use Rattle.context_meaning.proofs.Falling.{Falls, stimulated_falls, weight_append}
 
--- fuel, and what waits in front
+-- twice the fuel, and what waits in front
 abbrev pub load_of : Context → ℕ
-load_of c = c.fuel + length c.front
+load_of c = 2 * c.fuel + front_weight c.front
+
+-- the mark of a thing weighs less than the thing
+marks_weigh : (w : Waiting) → front_weight (marks_of w) < weight_of w
+marks_weigh (waiting.Event e) = omega arith
+marks_weigh (waiting.Completed e) = omega arith
+
+-- what a thing left, put in front with its mark
+fewer : (w : Waiting) (ws : List Waiting) (c d : Context) → c.row ≡ [] → Falls (with_front ws c) d → load_of (row_in_front (marks_of w) d) < 2 * c.fuel + front_weight (w ∷ ws)
+fewer w ws c d empty falls =
+    let marks = marks_weigh w in
+    let joined = weight_append (d.row ++ marks_of w) d.front in
+    let first = weight_append d.row (marks_of w) in
+    let same = ap front_weight falls.front in
+    let none = ap front_weight empty in
+    let load = falls.load in
+    omega (arith, marks, joined, first, same, none, load)
 
 module _ (program : Program) where
-  -- what an event left, put in front
-  fewer : (es : List Value) (c d : Context) → c.row ≡ [] → Falls (record c { front = es }) d → load_of (rowed program d) < c.fuel + length es + 1
-  fewer es c d empty falls =
-      let joined = length-append d.row d.front in
-      let same = ap (λ (xs : List Value). length xs) falls.front in
-      let none = ap (λ (xs : List Value). length xs) empty in
-      let fuel = falls.fuel in
-      omega (arith, joined, same, none, fuel)
-
   -- the first of those that wait, where the row is empty
-  pub front_falls : (e : Value) (es : List Value) (c : Context) → c.row ≡ [] → load_of (front_handled program (e ∷ es) c) < c.fuel + length (e ∷ es)
-  front_falls e es c empty = let h = fewer es c (event_handled program e (record c { front = es })) empty (event_falls program e (record c { front = es })) in omega (arith, h)
+  pub front_falls : (w : Waiting) (ws : List Waiting) (c : Context) → c.row ≡ [] → load_of (front_handled program (w ∷ ws) c) < 2 * c.fuel + front_weight (w ∷ ws)
+  front_falls w ws c empty = fewer w ws c (stimulated program (stimulus_of w) (with_front ws c)) empty (stimulated_falls program (stimulus_of w) (with_front ws c))
 
   -- the first of some
-  some_falls : (es : List Value) (c : Context) → c.row ≡ [] → 0 < length es → load_of (front_handled program es c) < c.fuel + length es
+  some_falls : (ws : List Waiting) (c : Context) → c.row ≡ [] → 0 < length ws → load_of (front_handled program ws c) < 2 * c.fuel + front_weight ws
   some_falls [] c empty h = absurd (omega (arith, h))
-  some_falls (e ∷ es) c empty h = front_falls e es c empty
+  some_falls (w ∷ ws) c empty h = front_falls w ws c empty
 
   -- the first in front
   pub first_falls : (c : Context) → c.row ≡ [] → 0 < length c.front → load_of (first_handled program c) < load_of c
   first_falls c empty h = some_falls c.front c empty h
 
   -- the row is empty behind the first of these
-  front_row : (es : List Value) (c : Context) → c.row ≡ [] → (front_handled program es c).row ≡ []
+  front_row : (ws : List Waiting) (c : Context) → c.row ≡ [] → (front_handled program ws c).row ≡ []
   front_row [] c empty = empty
-  front_row (e ∷ es) c empty = refl
+  front_row (w ∷ ws) c empty = refl
 
   -- the row is empty behind it
   pub first_row : (c : Context) → c.row ≡ [] → (first_handled program c).row ≡ []
@@ -52,9 +60,9 @@ module _ (program : Program) where
   drained_spent (suc n) c is = ap (drained program n) (ap (λ b. if b then c else first_handled program c) is) ∙ drained_spent n c is
 
   -- of none there is no first
-  none_first : (es : List Value) (c : Context) → es ≡ [] → front_handled program es c ≡ c
+  none_first : (ws : List Waiting) (c : Context) → ws ≡ [] → front_handled program ws c ≡ c
   none_first [] c is = refl
-  none_first (e ∷ es) c is = cc
+  none_first (w ∷ ws) c is = cc
 
   -- where nothing waits
   pub drained_empty : (n : ℕ) (c : Context) → c.front ≡ [] → drained program n c ≡ c
@@ -64,9 +72,9 @@ module _ (program : Program) where
   -- ---- enough turns
 
   -- nothing waits, or something
-  front_cases : (es : List Value) → (es ≡ []) ⊎ (0 < length es)
+  front_cases : (ws : List Waiting) → (ws ≡ []) ⊎ (0 < length ws)
   front_cases [] = inl refl
-  front_cases (e ∷ es) = inr (omega arith)
+  front_cases (w ∷ ws) = inr (omega arith)
 
   -- one turn more changes nothing
   abbrev Enough : ℕ → Context → Type 0
@@ -81,9 +89,9 @@ module _ (program : Program) where
       let falls = first_falls c empty some in
       ap (drained program (suc n)) step ∙ again first (first_row c empty) (omega (arith, falls, h)) ∙ sym (ap (drained program n) step)
 
-  -- as many turns as there are fuel and events in front are enough
+  -- as many turns as twice the fuel and what waits weigh are enough
   enough : (n : ℕ) (c : Context) → c.row ≡ [] → load_of c ≤ n → Enough n c
-  enough zero c empty h = ⊎_elim (λ none. drained_empty 1 c none) (λ some. absurd (omega (arith, some, h))) (front_cases c.front)
+  enough zero c empty h = ⊎_elim (λ none. drained_empty 1 c none) (λ some. let falls = first_falls c empty some in absurd (omega (arith, falls, h))) (front_cases c.front)
   enough (suc n) c empty h = ⊎_elim (λ none. drained_empty (suc (suc n)) c none ∙ sym (drained_empty (suc n) c none)) (λ some. next_enough n c c.spent refl empty h some (enough n)) (front_cases c.front)
 
   -- so are more
@@ -93,7 +101,7 @@ module _ (program : Program) where
       let next : suc k + n ≡ suc (k + n) = omega arith in
       ap (λ m. drained program m c) next ∙ enough (k + n) c empty (omega (arith, h)) ∙ more_enough k n c empty h
 
-  -- as many turns as there are fuel and events in front are enough
+  -- each number of turns from the bound on settles
   pub drained_settled : (n : ℕ) (c : Context) → c.row ≡ [] → load_of c ≤ n → drained program n c ≡ settled program c
   drained_settled n c empty h =
       let is : n ≡ (n - load_of c) + load_of c = omega (arith, h) in
@@ -111,7 +119,7 @@ module _ (program : Program) where
 
   -- one turn of so many
   turn_settled : (n : ℕ) (c : Context) → load_of c ≡ n → c.row ≡ [] → c.spent ≡ false → 0 < length c.front → drained program n c ≡ settled program (first_handled program c)
-  turn_settled zero c is empty live some = absurd (omega (arith, is, some))
+  turn_settled zero c is empty live some = let falls = first_falls c empty some in absurd (omega (arith, is, falls))
   turn_settled (suc n) c is empty live some =
       let falls = first_falls c empty some in
       ap (drained program n) (ap (λ b. if b then c else first_handled program c) live) ∙ drained_settled n (first_handled program c) (first_row c empty) (omega (arith, falls, is))

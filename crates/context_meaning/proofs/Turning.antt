@@ -1,13 +1,12 @@
--- Turns of listeners, events and new instances keep a context's fit.
-use Rattle.context_meaning.proofs.Common.{ℕ, List, [], map, length, slice_get, true, nat_le, Option, Some, None, Contains, ⊎_elim, refl, sym, ap, subst, arith, find, list_all, and_parts, cond_both, slice_get_within, All-contains, All-push, All-weaker, Value, out-Value, Program, Monitor, Global, Site, TemplateShape, stands, ends_plain, runs_plain, Typed, default_of, AllFit, fit_nil, fit_cons, default_fits, GlobalsFit, Instance, Listener, Context, charged, instance_of, is_instance, spend, unless_spent, with_instance, ondie_of, ran, begun, births_in, body_number, callback_locals, completed, defaults_in, event_handled, fits, is_born, is_empty, load_handled, stepped, stepped_born, stepped_found, template_of, InstanceFits, ListenerFits, ContextFits, MayRun}
-use Rattle.std.proofs.Common.{◌≡◌, ◌+◌, ◌-◌, ◌<◌, ◌≤◌, ◌∷◌, ◌++◌, eqb-true}
+-- Turns of listeners, stimuli and new instances keep a context's fit.
+use Rattle.std.proofs.Common.{◌≡◌, ◌+◌, ◌<◌, ◌≤◌, ◌∷◌, ◌++◌, if◌then◌else◌}
+use Rattle.context_meaning.proofs.Common.{ℕ, List, [], map, length, slice_get, true, Some, Contains, ⊎_elim, sym, ap, subst, arith, list_all, and_parts, cond_both, eqb-true, Option, slice_get_within, All-contains, All-push, All-weaker, Value, Program, Monitor, Global, Site, TemplateShape, stands, ends_plain, runs_plain, Typed, default_of, AllFit, fit_nil, fit_cons, default_fits, GlobalsFit, Instance, Listener, Stimulus, Context, behind_charge, births_in, has_instances, instance_of, is_born, is_instance, listener_of, unless_spent, with_fuel, with_instance, with_some, ran, body_number, callback_locals, completes, defaults_in, event_of, loaded, stepped, stepped_born, stimulated, template_of, turn, InstanceFits, ListenerFits, ContextFits, MayRun, StimulusFits}
 use Rattle.typed_program.specs.Programs.{global_shapes, global_so, initial_so}
-use Rattle.value_shapes.specs.Fits.{IsEvent}
-use Rattle.context_meaning.specs.Turns.{tested, turn}
+use Rattle.context_meaning.proofs.Choosing.{charge_both, unless_both, with_some_both}
 use Rattle.context_meaning.proofs.Finding.{find_contains, find_push, number_is}
 use Rattle.context_meaning.proofs.Running.{RunsKeepShapes, found_fits, fuel_fits, spend_fits}
-use Rattle.context_meaning.proofs.Heads.{callback_may, monitor_there, ondie_may, onload_may}
-use Rattle.context_meaning.proofs.Ending.{ran_fits, unless_fits}
+use Rattle.context_meaning.proofs.Heads.{callback_may, monitor_there, onload_may}
+use Rattle.context_meaning.proofs.Ending.{ran_fits}
 
 -- a number that was given out is below the next one
 later : (n begun : ℕ) → n ≤ begun → n ≤ begun + 1
@@ -19,16 +18,14 @@ too_late n begun h is = omega arith
 
 module _ (program : Program) where
   -- what stands behind a charge
-  pub charged_fits : (amount : ℕ) (go : Context → Context) (c : Context) → ContextFits program c → ((fuel : ℕ) → ContextFits program (record c { fuel = fuel }) → ContextFits program (go (record c { fuel = fuel }))) → ContextFits program (charged amount go c)
-  charged_fits amount go c f k = cond_both (nat_le amount c.fuel) (go (record c { fuel = c.fuel - amount })) (spend c) (ContextFits program) (λ _. k (c.fuel - amount) (fuel_fits program c (c.fuel - amount) f)) (λ _. spend_fits program c f)
+  pub charge_fits : (amount : ℕ) (go : Context → Context) (c : Context) → ContextFits program c → ((fuel : ℕ) → ContextFits program (go (with_fuel fuel c))) → ContextFits program (behind_charge amount go c)
+  charge_fits amount go c f k = charge_both (ContextFits program) amount go c (spend_fits program c f) (λ fuel _. k fuel)
 
   -- one more instance
   pub instance_fits : (monitor : ℕ) (globals : List Value) (c : Context) → monitor < length program.monitors → GlobalsFit program monitor globals → ContextFits program c → ContextFits program (with_instance monitor globals c)
   instance_fits monitor globals c there g f = record {
     instances = All-push (InstanceFits program (c.begun + 1)) c.instances (record { number = c.begun + 1; monitor = monitor; globals = globals }) (All-weaker (InstanceFits program c.begun) (InstanceFits program (c.begun + 1)) (λ i h. record { number = later i.number c.begun h.number; monitor = h.monitor; globals = h.globals }) c.instances f.instances) (record { number = omega arith; monitor = there; globals = g });
     listeners = All-weaker (ListenerFits program c.begun c.instances) (ListenerFits program (c.begun + 1) (c.instances ++ (record { number = c.begun + 1; monitor = monitor; globals = globals }) ∷ [])) (λ l h. record { instance = later l.instance c.begun h.instance; site = h.site; there = h.there; captured = h.captured; monitor = λ i found. ⊎_elim (h.monitor i) (λ k. absurd (too_late l.instance c.begun h.instance (eqb-true (c.begun + 1) l.instance k.0))) (find_push (is_instance l.instance) c.instances _ i found) }) c.listeners f.listeners;
-    births = f.births;
-    born = f.born;
     row = f.row;
     front = f.front;
   }
@@ -38,57 +35,41 @@ module _ (program : Program) where
   instance_found monitor globals c f i found = ⊎_elim (λ old. absurd (too_late i.number c.begun (found_fits program (c.begun + 1) c i f old).number (sym (number_is (c.begun + 1) c.instances i old)))) (λ k. ap (λ (j : Instance). j.monitor) (sym k.1)) (find_push (is_instance (c.begun + 1)) c.instances _ i found)
 
 module _ (program : Program) (typed : Typed program) (law : RunsKeepShapes) where
-  -- ---- which bodies may run
-
-  -- `ondie` of a monitor, in its instances
-  pub may_ondie : (i j : Instance) (body : ℕ) → ondie_of program (slice_get program.monitors i.monitor) ≡ Some body → i.monitor ≡ j.monitor → MayRun program body [] j
-  may_ondie i j body is same = ondie_may program typed i.monitor body j is (sym same)
-
-  -- `onload`
-  pub may_onload : (m : ℕ) (monitor : Monitor) (i : Instance) → slice_get program.monitors m ≡ Some monitor → i.monitor ≡ m → MayRun program monitor.onload [] i
-  may_onload m monitor i there same = onload_may program typed m monitor i there same
-
-  -- the callback of a listener, in its instance
-  pub may_callback : (c : Context) (l : Listener) (site : Site) (t : TemplateShape) (e : Value) (i : Instance) → ContextFits program c → Contains c.listeners l → slice_get program.sites l.site ≡ Some site → template_of site.term ≡ Some t → fits t e ≡ true → IsEvent program.types e (out-Value e) → instance_of l.instance c ≡ Some i → MayRun program (body_number program l.site) (callback_locals program.types t site l.captured e) i
-  may_callback c l site t e i f live there is fit event found = callback_may program typed c.begun c.instances l site t e i (All-contains (ListenerFits program c.begun c.instances) c.listeners l f.listeners live) there is fit event found
-
   -- ---- turns
 
+  -- the callback of a live listener may run in its instance
+  pub may_callback : (c : Context) (l : Listener) (site : Site) (t : TemplateShape) (s : Stimulus) (i : Instance) → ContextFits program c → Contains c.listeners l → slice_get program.sites l.site ≡ Some site → template_of site.term ≡ Some t → completes t s ≡ true → StimulusFits program s → instance_of l.instance c ≡ Some i → MayRun program (body_number program l.site) (callback_locals program.types t site l.captured (event_of s)) i
+  may_callback c l site t s i f live there is fit event found = callback_may program typed c.begun c.instances l site t s i (All-contains (ListenerFits program c.begun c.instances) c.listeners l f.listeners live) there is fit event found
+
+  -- the run of a callback
+  abbrev callback_run : Stimulus → Listener → Site → TemplateShape → Context → Context
+  callback_run s l site t = ran program l.instance (body_number program l.site) (callback_locals program.types t site l.captured (event_of s))
+
   -- a listener that is completed
-  pub completed_fits : (t : TemplateShape) (site : Site) (l : Listener) (e : Value) (c : Context) → IsEvent program.types e (out-Value e) → ContextFits program c → Contains c.listeners l → slice_get program.sites l.site ≡ Some site → template_of site.term ≡ Some t → fits t e ≡ true → ContextFits program (completed program t site l e c)
-  completed_fits t site l e c event f live there is fit = charged_fits program 1 (ran program l.instance (body_number program l.site) (callback_locals program.types t site l.captured e)) c f (λ fuel less. ran_fits program typed law l.instance (body_number program l.site) (callback_locals program.types t site l.captured e) (record c { fuel = fuel }) less (λ i found. may_callback c l site t e i f live there is fit event found))
+  completed_fits : (s : Stimulus) (l : Listener) (site : Site) (t : TemplateShape) (c : Context) → StimulusFits program s → ContextFits program c → Contains c.listeners l → slice_get program.sites l.site ≡ Some site → template_of site.term ≡ Some t → completes t s ≡ true → ContextFits program (behind_charge 1 (callback_run s l site t) c)
+  completed_fits s l site t c event f live there is fit = charge_fits program 1 (callback_run s l site t) c f (λ fuel. ran_fits program typed law l.instance (body_number program l.site) (callback_locals program.types t site l.captured (event_of s)) (with_fuel fuel c) (fuel_fits program c fuel f) (λ i found. may_callback c l site t s i f live there is fit event found))
 
-  -- one that is tested
-  pub tested_fits : (o : Option TemplateShape) (site : Site) (l : Listener) (e : Value) (c : Context) → IsEvent program.types e (out-Value e) → ContextFits program c → Contains c.listeners l → slice_get program.sites l.site ≡ Some site → template_of site.term ≡ o → ContextFits program (tested program o site l e c)
-  tested_fits None site l e c event f live there is = f
-  tested_fits (Some t) site l e c event f live there is = cond_both (fits t e) (completed program t site l e c) c (ContextFits program) (completed_fits t site l e c event f live there is) (λ _. f)
-
-  -- one whose site may be there
-  site_fits : (o : Option Site) (l : Listener) (e : Value) (c : Context) → IsEvent program.types e (out-Value e) → ContextFits program c → Contains c.listeners l → slice_get program.sites l.site ≡ o → ContextFits program (stepped program o l e c)
-  site_fits None l e c event f live there = f
-  site_fits (Some site) l e c event f live there = tested_fits (template_of site.term) site l e c event f live there refl
-
-  -- one that is stepped
-  pub stepped_fits : (l : Listener) (e : Value) (c : Context) → IsEvent program.types e (out-Value e) → ContextFits program c → Contains c.listeners l → ContextFits program (stepped program (slice_get program.sites l.site) l e c)
-  stepped_fits l e c event f live = site_fits (slice_get program.sites l.site) l e c event f live refl
-
-  -- one that may be live
-  born_fits : (birth : ℕ) (o : Option Listener) (e : Value) (c : Context) → IsEvent program.types e (out-Value e) → ContextFits program c → find (is_born program birth) c.listeners ≡ o → ContextFits program (stepped_found program o e c)
-  born_fits birth None e c event f is = f
-  born_fits birth (Some l) e c event f is = stepped_fits l e c event f (find_contains (is_born program birth) c.listeners l is)
+  -- a live listener that is stepped
+  pub stepped_fits : (s : Stimulus) (l : Listener) (c : Context) → StimulusFits program s → ContextFits program c → Contains c.listeners l → ContextFits program (stepped program s l c)
+  stepped_fits s l c event f live =
+      with_some_both (ContextFits program) (slice_get program.sites l.site) (λ site. with_some (template_of site.term) (λ t d. if completes t s then behind_charge 1 (callback_run s l site t) d else d)) c f (λ site there.
+      with_some_both (ContextFits program) (template_of site.term) (λ t d. if completes t s then behind_charge 1 (callback_run s l site t) d else d) c f (λ t is.
+      cond_both (completes t s) (behind_charge 1 (callback_run s l site t) c) c (ContextFits program) (completed_fits s l site t c event f live there is) (λ _. f)))
 
   -- the listener of a birth
-  pub stepped_born_fits : (e : Value) (birth : ℕ) (c : Context) → IsEvent program.types e (out-Value e) → ContextFits program c → ContextFits program (stepped_born program e birth c)
-  stepped_born_fits e birth c event f = born_fits birth (find (is_born program birth) c.listeners) e c event f refl
+  pub stepped_born_fits : (s : Stimulus) (birth : ℕ) (c : Context) → StimulusFits program s → ContextFits program c → ContextFits program (stepped_born program s birth c)
+  stepped_born_fits s birth c event f = with_some_both (ContextFits program) (listener_of birth c) (stepped program s) c f (λ l is. stepped_fits s l c event f (find_contains (is_born birth) c.listeners l is))
 
   -- the listeners of these births
-  pub turn_fits : (e : Value) → IsEvent program.types e (out-Value e) → (births : List ℕ) (c : Context) → ContextFits program c → ContextFits program (turn program e births c)
-  turn_fits e event [] c f = f
-  turn_fits e event (b ∷ bs) c f = turn_fits e event bs (unless_spent (stepped_born program e b) c) (unless_fits program (stepped_born program e b) c f (stepped_born_fits e b c event f))
+  pub turn_fits : (s : Stimulus) → StimulusFits program s → (births : List ℕ) (c : Context) → ContextFits program c → ContextFits program (turn program s births c)
+  turn_fits s event [] c f = f
+  turn_fits s event (b ∷ bs) c f = turn_fits s event bs (unless_spent (stepped_born program s b) c) (unless_both (ContextFits program) (stepped_born program s b) c f (stepped_born_fits s b c event f))
 
-  -- an event
-  pub event_fits : (e : Value) (c : Context) → IsEvent program.types e (out-Value e) → ContextFits program c → ContextFits program (event_handled program e c)
-  event_fits e c event f = cond_both (is_empty program c.instances) c (charged 5 (λ d. turn program e (births_in program d) d) c) (ContextFits program) (λ _. f) (λ _. charged_fits program 5 (λ d. turn program e (births_in program d) d) c f (λ fuel less. turn_fits e event (births_in program (record c { fuel = fuel })) (record c { fuel = fuel }) less))
+  -- a stimulus
+  pub stimulated_fits : (s : Stimulus) (c : Context) → StimulusFits program s → ContextFits program c → ContextFits program (stimulated program s c)
+  stimulated_fits s c event f =
+      let go : Context → Context = λ d. turn program s (births_in d) d in
+      cond_both (has_instances c) (behind_charge 5 go c) c (ContextFits program) (λ _. charge_fits program 5 go c f (λ fuel. turn_fits s event (births_in (with_fuel fuel c)) (with_fuel fuel c) (fuel_fits program c fuel f))) (λ _. f)
 
   -- ---- instances that begin
 
@@ -106,11 +87,21 @@ module _ (program : Program) (typed : Typed program) (law : RunsKeepShapes) wher
       let all = (and_parts _ (runs_plain program n m.onload) (and_parts _ (ends_plain program n m.ondie) (monitor_there program typed n m there)).0).0 in
       subst (λ (o : Option Monitor). AllFit program.types (defaults_in program m) (global_shapes o)) (sym there) (defaults_each n m.globals all)
 
-  -- an instance of a monitor that may be there
-  begun_fits : (monitor : ℕ) (o : Option Monitor) (c : Context) → slice_get program.monitors monitor ≡ o → ContextFits program c → ContextFits program (begun program monitor o c)
-  begun_fits monitor None c there f = f
-  begun_fits monitor (Some m) c there f = ran_fits program typed law (c.begun + 1) m.onload [] (with_instance monitor (defaults_in program m) c) (instance_fits program monitor (defaults_in program m) c (slice_get_within program.monitors monitor m there) (defaults_in_fit monitor m there) f) (λ i found. may_onload monitor m i there (instance_found program monitor (defaults_in program m) c f i found))
+  -- an instance of a monitor that is there begins
+  pub begun_fits : (n : ℕ) (m : Monitor) (c : Context) → slice_get program.monitors n ≡ Some m → ContextFits program c → ContextFits program (with_instance n (defaults_in program m) c)
+  begun_fits n m c there f = instance_fits program n (defaults_in program m) c (slice_get_within program.monitors n m there) (defaults_in_fit n m there) f
 
-  -- a new instance
-  pub load_fits : (monitor : ℕ) (c : Context) → ContextFits program c → ContextFits program (load_handled program monitor c)
-  load_fits monitor c f = charged_fits program 5 (begun program monitor (slice_get program.monitors monitor)) c f (λ fuel less. begun_fits monitor (slice_get program.monitors monitor) (record c { fuel = fuel }) refl less)
+  -- and its `onload` may run in it
+  pub may_onload : (n : ℕ) (m : Monitor) (c : Context) → slice_get program.monitors n ≡ Some m → ContextFits program c → (i : Instance) → instance_of (c.begun + 1) (with_instance n (defaults_in program m) c) ≡ Some i → MayRun program m.onload [] i
+  may_onload n m c there f i found = onload_may program typed n m i there (instance_found program n (defaults_in program m) c f i found)
+
+  -- what a monitor that is there begins with
+  abbrev begins : ℕ → Monitor → Context → Context
+  begins n m d = ran program (d.begun + 1) m.onload [] (with_instance n (defaults_in program m) d)
+
+  -- an instance begins, and its `onload` runs
+  pub loaded_fits : (monitor : ℕ) (c : Context) → ContextFits program c → ContextFits program (loaded program monitor c)
+  loaded_fits monitor c f =
+      charge_fits program 5 (with_some (slice_get program.monitors monitor) (begins monitor)) c f (λ fuel.
+      let less = fuel_fits program c fuel f in
+      with_some_both (ContextFits program) (slice_get program.monitors monitor) (begins monitor) (with_fuel fuel c) less (λ m there. ran_fits program typed law (c.begun + 1) m.onload [] (with_instance monitor (defaults_in program m) (with_fuel fuel c)) (begun_fits monitor m (with_fuel fuel c) there less) (may_onload monitor m (with_fuel fuel c) there less)))

@@ -2,5 +2,7 @@
 #![tactic(auto)]
 
 mod context;
+mod laws;
 
 pub use context::{Instance, Instances, Listener, Listeners, Stimulus, Waiting, Waitings};
+pub use laws::front_settles;
