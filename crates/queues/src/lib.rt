@@ -76,4 +76,13 @@ impl<T: Drop> Queue<T> {
         self.items.push_back(item)?;
         Ok(())
     }
+
+    /// Adds an item in front of the others, as one that was taken and goes back. Where there is no memory the queue is as before.
+    pub fn push_first(&mut self, item: T) -> Result<(), Memory>
+        ensures ok { OnOk result (self.new ≡ item ∷ self.old) }
+        ensures err { OnErr result (self.new ≡ self.old) }
+    {
+        self.items.push_front(item)?;
+        Ok(())
+    }
 }
