@@ -1,4 +1,5 @@
 pub mod Common
+pub mod Entries
 pub mod Forms
 pub mod Reading
 pub mod Spelling

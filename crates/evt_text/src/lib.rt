@@ -1,6 +1,7 @@
 //! Values in the text of an event file.
 #![tactic(auto)]
 
+mod entries;
 mod fault;
 mod numbers;
 mod parts;

@@ -28,7 +28,8 @@ pub fn value_at(
     if !text.is_char_boundary(at) {
         return Err(TextFault::NoValue);
     }
-    let mut scanner = Scanner { rest: &text[at..] };
-    let value = value(alloc, &mut scanner, shape, types, types.len() + 1)?;
+    let rest = &text[at..];
+    let mut scanner = Scanner { rest };
+    let value = value(alloc, &mut scanner, shape, types, rest.len() + 1)?;
     Ok((value, text.len() - scanner.rest.len()))
 }
