@@ -21,13 +21,17 @@ event-read-again types names limit n x spelling rest lt h =
     let s = event-within types n x spelling h in value-whole types names limit s.0 (EventForm n) x spelling rest tt lt s.1
 
 -- two events of one type that are spelled at one place are the same
-pub event-same : (types : List EventShape) → HasNames types → HasKnownFields types → HasNoCycle types → (n : ℕ) (x y : Value) (spelling rest spelling' rest' : List ℕ)
+pub event-alike : (types : List EventShape) → HasNames types → (n : ℕ) (x y : Value) (spelling rest spelling' rest' : List ℕ)
     → Spells types (Event n) x spelling → Spells types (Event n) y spelling' → spelling ++ rest ≡ spelling' ++ rest' → (x ≡ y) × (rest ≡ rest')
-event-same types names known none n x y spelling rest spelling' rest' h k e =
+event-alike types names n x y spelling rest spelling' rest' h k e =
     let limit = suc (length spelling + length spelling') in
     let first : length spelling < suc (length spelling + length spelling') = omega arith in
     let second : length spelling' < suc (length spelling + length spelling') = omega arith in
     pair-some _ _ _ _ (sym (event-read-again types names limit n x spelling rest first h) ∙ ap (value_from limit types (EventForm n)) e ∙ event-read-again types names limit n y spelling' rest' second k)
+
+pub event-same : (types : List EventShape) → HasNames types → HasKnownFields types → HasNoCycle types → (n : ℕ) (x y : Value) (spelling rest spelling' rest' : List ℕ)
+    → Spells types (Event n) x spelling → Spells types (Event n) y spelling' → spelling ++ rest ≡ spelling' ++ rest' → (x ≡ y) × (rest ≡ rest')
+event-same types names known none n x y spelling rest spelling' rest' h k e = event-alike types names n x y spelling rest spelling' rest' h k e
 
 -- a byte that can't go on with a name is in front
 abbrev pub EndsName : List ℕ → Type 0

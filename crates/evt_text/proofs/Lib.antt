@@ -9,8 +9,11 @@ pub mod Fronts
 pub mod Lists
 pub mod Nested
 pub mod Nesting
+pub mod ReadAgain
 pub mod Renested
 pub mod Respelled
 pub mod Scalars
 pub mod Spelled
 pub mod Strings
+pub mod Texts
+pub mod Written

@@ -3,6 +3,7 @@
 
 mod entries;
 mod fault;
+mod laws;
 mod numbers;
 mod parts;
 mod reading;
@@ -10,5 +11,6 @@ mod scanner;
 mod values;
 
 pub use fault::TextFault;
+pub use laws::texts_are_read_again;
 pub use parts::behind_blanks;
 pub use reading::value_at;
