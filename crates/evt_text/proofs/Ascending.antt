@@ -1,9 +1,9 @@
 -- Entries whose keys ascend: where a key stands, and what stays in order.
-use Rattle.std.proofs.Common.{◌≡◌, ◌+◌, ◌<◌, ◌≤◌, ◌∷◌, Result, Ok, Err, OnOk}
+use Rattle.std.proofs.Common.{◌≡◌, ◌<◌, ◌≤◌, ◌∷◌, Result, Ok, Err, OnOk}
 use Rattle.evt_text.proofs.Common.{ℕ, zero, suc, Bool, true, false, List, [], length, map, Some, refl, sym, ap, ◌∙◌, arith, slice_get, slice_set, remove, Ordering, Less, Equal, Greater, AllByRecursion, Value, Pair, out-Pair, order_of, scalar_of, KeysAscend}
 use Rattle.std.specs.Prelude.{slice_index_or, insert}
 use Rattle.std.specs.List.Sorted.{IsPartitionedBy, IsPartitionPoint}
-use Rattle.evt_text.specs.Entries.{behind, by_order, count_before, entry, is_before, is_equal, is_key, is_less, place_in, with_entry}
+use Rattle.evt_text.specs.Entries.{behind, count_before, entry, is_before, is_equal, is_key, is_less, place_in, with_entry}
 use Rattle.evt_text.proofs.Scalars.{less_less, turned}
 
 -- ---- the place of a key by counting lesser ones

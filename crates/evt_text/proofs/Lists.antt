@@ -1,13 +1,13 @@
 -- The loops over the items of a list and the entries of a dictionary.
 use Rattle.evt_text.proofs.Common.{ℕ, suc, List, [], Bool, true, false, Option, Some, None, refl, sym, ap, ◌∙◌, arith, Pair, KeysAscend, out-Pair, with_front, behind_sign}
-use Rattle.std.proofs.Common.{◌≡◌, ◌+◌, ◌-◌, ◌<◌, ◌∷◌, ◌++◌, Result, Ok, Err, append-nil}
+use Rattle.std.proofs.Common.{◌≡◌, ◌+◌, ◌-◌, ◌<◌, ◌∷◌, ◌++◌, Result, Err, append-nil}
 use Rattle.std.specs.Result.{IsErrAnd}
 use Rattle.std.proofs.lemmas.Result.{err_from_is_err_and}
 use Rattle.evt_text.specs.declared.fault.TextFault.{TextFault}
 use Rattle.evt_text.specs.declared.fault.TextFault.TheVariants.{NoValue, Memory}
 use Rattle.evt_text.specs.Entries.{with_entry}
 use Rattle.evt_text.specs.Reading.{◌>>=◌, Reads, Passes, behind_opening, item_at, items_from, list_at, put_in, unless_closed}
-use Rattle.evt_text.proofs.Cases.{with_front-twice, with_front-nil}
+use Rattle.evt_text.proofs.Cases.{with_front-twice}
 
 -- what stands on a part that failed fails
 pub passes_err : {X : Type 0} (f : TextFault) (rest : List ℕ) (part : Option (List ℕ)) (r : Result X TextFault) (whole : Option (X × List ℕ)) → (part ≡ None → whole ≡ None)

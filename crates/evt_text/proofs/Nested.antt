@@ -1,6 +1,6 @@
 -- What is read as a value is spelled so.
 use Rattle.std.proofs.Common.{◌≡◌, ◌∷◌, ◌++◌}
-use Rattle.evt_text.proofs.Common.{ℕ, zero, suc, List, [], Bool, true, false, Option, Some, None, refl, sym, ◌∙◌, ap, append_assoc, slice_get, none-some, same_Some, Field, EventShape, Value, Pair, out-Pair, Form, IntegerForm, BooleanForm, TextForm, SequenceForm, DictionaryForm, EventForm, ContextForm, ListenerForm, AreBlanks, IsLead, SpellsFields, SpellsEvent, SpellsWithin, with_front, behind_sign, behind_name, behind_blanks, fields_from, form_at}
+use Rattle.evt_text.proofs.Common.{ℕ, zero, suc, List, [], Bool, true, false, Option, Some, None, refl, sym, ◌∙◌, ap, append_assoc, slice_get, none-some, same_Some, Field, EventShape, Value, Pair, Form, IntegerForm, BooleanForm, TextForm, SequenceForm, DictionaryForm, EventForm, ContextForm, ListenerForm, AreBlanks, IsLead, SpellsFields, SpellsEvent, SpellsWithin, with_front, behind_sign, behind_name, behind_blanks, fields_from, form_at}
 use Rattle.epl_values.specs.declared.value.Value.TheVariants as value
 use Rattle.event_types.specs.Types.{form_of}
 use Rattle.value_rules.specs.Texts.{truth_text}

@@ -1,6 +1,6 @@
 -- The text of an event is read again as that event.
-use Rattle.std.proofs.Common.{◌≡◌, ◌+◌, ◌<◌, ◌≤◌, ◌∷◌, ◌++◌, ◌-◌, Result, Ok, Err, length-drop}
-use Rattle.evt_text.proofs.Common.{ℕ, suc, List, [], length, drop, take, true, refl, sym, ap, ◌∙◌, arith, append_assoc, length-append, inl, inr, take_at, EventShape, Event, Value, HasNames}
+use Rattle.std.proofs.Common.{◌≡◌, ◌+◌, ◌<◌, ◌≤◌, ◌++◌, ◌-◌, Ok, Err, length-drop}
+use Rattle.evt_text.proofs.Common.{ℕ, suc, List, length, drop, take, true, refl, sym, ap, ◌∙◌, arith, length-append, inl, inr, take_at, EventShape, Event, Value, HasNames}
 use Rattle.std.specs.List.{slice_range}
 use Rattle.std.proofs.lemmas.List.{drop_at}
 use Rattle.std.proofs.lemmas.List.Folds.{drop_split}

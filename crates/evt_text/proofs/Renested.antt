@@ -1,6 +1,6 @@
 -- What is spelled as a value is read again.
 use Rattle.std.proofs.Common.{◌≡◌, ◌+◌, ◌<◌, ◌≤◌, ◌∷◌, ◌++◌, ◌||◌, ◌&&◌, ◌==◌}
-use Rattle.evt_text.proofs.Common.{ℕ, ℤ, zero, suc, List, [], length, Bool, true, false, nat_le, Option, Some, None, refl, sym, ap, ◌∙◌, arith, append_assoc, length-append, inl, inr, slice_get, IsNumeral, or_cases, and_parts, leb-true, ne_eqb, eqb-true, digit_from_value, none-some, same_Some, Field, EventShape, Value, Pair, out-Pair, is_letter, is_digit, IsName, HasNames, Form, IntegerForm, BooleanForm, TextForm, SequenceForm, DictionaryForm, EventForm, ContextForm, ListenerForm, AreBlanks, is_blank, IsLead, SpellsInteger, SpellsFields, SpellsEvent, SpellsWithin, behind_blanks, behind_sign, fields_from, form_at}
+use Rattle.evt_text.proofs.Common.{ℕ, ℤ, zero, suc, List, [], length, Bool, true, false, nat_le, Option, Some, None, refl, ap, ◌∙◌, arith, append_assoc, length-append, inl, inr, slice_get, IsNumeral, or_cases, and_parts, leb-true, ne_eqb, eqb-true, digit_from_value, none-some, same_Some, Field, EventShape, Value, Pair, out-Pair, is_letter, is_digit, IsName, HasNames, Form, IntegerForm, BooleanForm, TextForm, SequenceForm, DictionaryForm, EventForm, ContextForm, ListenerForm, AreBlanks, is_blank, IsLead, SpellsInteger, SpellsFields, SpellsEvent, SpellsWithin, behind_blanks, behind_sign, fields_from, form_at}
 use Rattle.std.proofs.lemmas.Bool.{or_from}
 use Rattle.epl_values.specs.declared.value.Pair.{roll-out-Pair}
 use Rattle.epl_values.specs.declared.value.Value.TheVariants as value
@@ -8,7 +8,7 @@ use Rattle.event_types.specs.Types.{form_of}
 use Rattle.value_rules.specs.Texts.{truth_text}
 use Rattle.evt_text.specs.Entries.{entered}
 use Rattle.evt_text.specs.Spelling.{SpellsEntry, SpellsForm, SpellsItems, SpellsList}
-use Rattle.evt_text.specs.Reading.{behind_lead, behind_opening, truth_at, integer_at, string_at, item_at, items_from, list_at, entry_at, put_in, event_at, value_from}
+use Rattle.evt_text.specs.Reading.{behind_lead, behind_opening, truth_at, integer_at, string_at, item_at, items_from, list_at, entry_at, event_at, value_from}
 use Rattle.evt_text.proofs.Fronts.{behind_name-at, behind_sign-at}
 use Rattle.evt_text.proofs.Respelled.{EndsNumber, integer-again, integer-covers, string-again, blanks-again}
 use Rattle.evt_text.proofs.Nested.{Reader, Speller}

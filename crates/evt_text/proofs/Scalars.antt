@@ -1,10 +1,10 @@
 -- The order of scalars is that of their kind, and less and greater hold within a kind alone.
 use Rattle.std.proofs.Common.{◌≡◌}
-use Rattle.evt_text.proofs.Common.{ℕ, Bool, true, false, List, refl, sym, ap, ◌∙◌, arith, Ordering, Less, Equal, Greater, Scalar, scalar_cmp}
+use Rattle.evt_text.proofs.Common.{Bool, true, false, refl, ap, ◌∙◌, Ordering, Less, Greater, Scalar, scalar_cmp}
 use Rattle.std.specs.Cmp.{IsTotalOrder}
-use Rattle.std.specs.Ordering.{nat_cmp, int_cmp, ordering_reverse}
+use Rattle.std.specs.Ordering.{int_cmp, ordering_reverse}
 use Rattle.std.proofs.lemmas.Cmp.{int_cmp_total, nat_list_cmp_total}
-use Rattle.epl_values.specs.Order.{Number, Truth, Letters, Other, bool_cmp}
+use Rattle.epl_values.specs.Order.{Number, Truth, Letters, bool_cmp}
 
 -- of two total orders' facts, the third
 total_turned : {K : Type 0} (R : K → K → Ordering) → IsTotalOrder R → (a b : K) → R a b ≡ Greater → R b a ≡ Less

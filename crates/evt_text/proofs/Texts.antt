@@ -1,13 +1,13 @@
 -- The texts of integers, strings and lists are spelled as such.
-use Rattle.std.proofs.Common.{◌≡◌, ◌+◌, ◌<◌, ◌≤◌, ◌∷◌, ◌++◌, ◌==◌, ◌^◌, ◌⊎◌, append-nil, negsuc}
-use Rattle.evt_text.proofs.Common.{ℕ, ℤ, pos, neg_ℤ, zero, suc, List, [], length, map, Bool, true, false, refl, sym, ap, ◌∙◌, arith, append_assoc, length-append, inl, inr, AllByRecursion, IsNumeral, digits_value, eqb-true, Field, Value, Pair, out-Pair, Form, SpellsInteger, SpellsBytes, SpellsString, SpellsFields, KeysAscend, Less, Equal, Greater, Ordering, order_of, scalar_of}
+use Rattle.std.proofs.Common.{◌≡◌, ◌<◌, ◌≤◌, ◌∷◌, ◌++◌, ◌==◌, ◌^◌, ◌⊎◌, append-nil, negsuc}
+use Rattle.evt_text.proofs.Common.{ℕ, ℤ, pos, neg_ℤ, suc, List, [], length, map, Bool, true, false, refl, sym, ap, ◌∙◌, arith, append_assoc, length-append, inl, inr, AllByRecursion, digits_value, eqb-true, Field, Value, Pair, out-Pair, SpellsInteger, SpellsBytes, SpellsString, SpellsFields, KeysAscend, Less, order_of}
 use Rattle.std.specs.Fmt.{decimal, signed_decimal}
 use Rattle.std.specs.List.{flat_map}
 use Rattle.std.proofs.lemmas.Fmt.{decimal_is_IsNumeral}
 use Rattle.epl_values.specs.declared.value.Pair.{roll-out-Pair}
 use Rattle.event_types.specs.Types.{form_of}
 use Rattle.value_rules.specs.Texts.{escaped as written, quoted, with_commas}
-use Rattle.evt_text.specs.Entries.{entered, with_entries, with_entry, entry}
+use Rattle.evt_text.specs.Entries.{entered, with_entries, with_entry}
 use Rattle.evt_text.specs.Readable.{IsOf64Bits}
 use Rattle.evt_text.specs.Spelling.{SpellsByte, SpellsItems, SpellsList}
 use Rattle.evt_text.proofs.Nested.{Speller}

@@ -1,6 +1,6 @@
 -- The text of a value spells it.
-use Rattle.std.proofs.Common.{◌≡◌, ◌+◌, ◌<◌, ◌≤◌, ◌∷◌, ◌++◌, ◌==◌, ◌&&◌, append-nil, subst}
-use Rattle.evt_text.proofs.Common.{ℕ, zero, suc, List, [], length, map, Bool, true, false, Option, Some, None, refl, sym, ap, ◌∙◌, arith, append_assoc, length-append, AllByRecursion, slice_get, and_parts, eqb-true, none-some, same_Some, Field, EventShape, Shape, Value, Pair, out-Pair, Form, EventForm, SpellsWithin}
+use Rattle.std.proofs.Common.{◌≡◌, ◌<◌, ◌∷◌, ◌++◌, append-nil, subst}
+use Rattle.evt_text.proofs.Common.{ℕ, zero, suc, List, [], length, map, true, Option, Some, None, refl, sym, ap, ◌∙◌, arith, append_assoc, length-append, AllByRecursion, slice_get, and_parts, eqb-true, none-some, same_Some, Field, EventShape, Shape, Value, Pair, out-Pair, Form, EventForm, SpellsWithin}
 use Rattle.std.proofs.lemmas.Bool.{false≢true}
 use Rattle.std.specs.List.{list_all}
 use Rattle.epl_values.specs.declared.shape.Shape.{Shape-F, out-Shape}
@@ -10,7 +10,7 @@ use Rattle.epl_values.specs.declared.value.Value.{Value-F, every-Value, every_he
 use Rattle.epl_values.specs.declared.value.Value.TheOpen as layer
 use Rattle.epl_values.specs.declared.value.Value.TheOpen.{Pair-F}
 use Rattle.epl_values.specs.declared.value.Value.TheVariants as value
-use Rattle.epl_values.specs.declared.value.Pair.{every-Pair, every_held-Pair, fold-roll-Pair, map-Pair, out-roll-Pair, roll-Pair}
+use Rattle.epl_values.specs.declared.value.Pair.{every-Pair, every_held-Pair, fold-roll-Pair, map-Pair, roll-Pair}
 use Rattle.event_types.specs.Types.{form_of, form_step}
 use Rattle.value_rules.specs.Shapes.{Fit, PairFit, all_fit, event_fits, fits, has, pair_fits, pair_has}
 use Rattle.value_rules.specs.Texts.{name_in, pair_step, pair_text, text_in, text_step, with_commas}
@@ -134,10 +134,22 @@ module _ (types : List EventShape) (texts : HaveTexts types) where
   event_written n (Some event) e zs d h a lt =
       let xs = map (λ (z : Known). z.0) zs in
       let inner = with_commas (map (text_in types) xs) in
-      let size = event_size event.name inner d lt in
-      (event, xs, e, value.rolls-Event n xs, ([], [], inner, simp (append_assoc, append-nil), tt, tt,
+      let size = event_size event.name inner d lt in (
+        event,
+        xs,
+        e,
+        value.rolls-Event n xs,
+        (
+          [],
+          [],
+          inner,
+          simp (append_assoc, append-nil),
+          tt,
+          tt,
           fields_spelled (SpellsWithin d types) (text_in types) event.fields xs
-          (fields_written zs event.fields d h (texts_at types n event texts e) a (each_shorter (text_in types) d xs size))))
+              (fields_written zs event.fields d h (texts_at types n event texts e) a (each_shorter (text_in types) d xs size)),
+        ),
+      )
 
   layer_written : (y : Value-F Known KnownPair) (l : Shape-F Shape) (d : ℕ) → fits types (tests (values_in y)) l ≡ true → HasText (form_step (map-Shape Shape Form form_of l)) → IsWithinLimits (values_in y) → PartsReadable (values_in y)
       → length (parts_text (values_in y)) < suc d → SpellsForm (SpellsWithin d types) types (form_step (map-Shape Shape Form form_of l)) (roll-Value (values_in y)) (parts_text (values_in y))
@@ -145,13 +157,19 @@ module _ (types : List EventShape) (texts : HaveTexts types) where
   layer_written (layer.Boolean b) shape.Boolean d h r a p lt = (b, value.rolls-Boolean b, refl)
   layer_written (layer.Text bytes) shape.Text d h r a p lt = (bytes, value.rolls-Text bytes, string_spelled bytes a)
   layer_written (layer.Sequence zs) (shape.Sequence element) d h r a p lt =
-      let xs = map (λ (z : Known). z.0) zs in
-      (xs, value.rolls-Sequence xs, list_spelled (SpellsWithin d types (form_of element)) (text_in types) 91 93 xs
-          (values_written zs element d h r p (each_shorter (text_in types) d xs (inner_shorter 91 93 (with_commas (map (text_in types) xs)) d lt))))
+      let xs = map (λ (z : Known). z.0) zs in (
+        xs,
+        value.rolls-Sequence xs,
+        list_spelled (SpellsWithin d types (form_of element)) (text_in types) 91 93 xs
+            (values_written zs element d h r p (each_shorter (text_in types) d xs (inner_shorter 91 93 (with_commas (map (text_in types) xs)) d lt))),
+      )
   layer_written (layer.Dictionary zs) (shape.Dictionary key item) d h r a p lt =
-      let ps = map (λ (z : KnownPair). z.0) zs in
-      (ps, value.rolls-Dictionary ps ∙ ap value.Dictionary (sym (entered_again ps a)), list_spelled (SpellsEntry (SpellsWithin d types (form_of key)) (SpellsWithin d types (form_of item))) (pair_text types) 123 125 ps
-          (pairs_written zs key item d h r.0 r.1 p (each_shorter (pair_text types) d ps (inner_shorter 123 125 (with_commas (map (pair_text types) ps)) d lt))))
+      let ps = map (λ (z : KnownPair). z.0) zs in (
+        ps,
+        value.rolls-Dictionary ps ∙ ap value.Dictionary (sym (entered_again ps a)),
+        list_spelled (SpellsEntry (SpellsWithin d types (form_of key)) (SpellsWithin d types (form_of item))) (pair_text types) 123 125 ps
+            (pairs_written zs key item d h r.0 r.1 p (each_shorter (pair_text types) d ps (inner_shorter 123 125 (with_commas (map (pair_text types) ps)) d lt))),
+      )
   layer_written (layer.Event n zs) (shape.Event m) d h r a p lt =
       let q = and_parts _ _ h in
       subst (λ k. SpellsForm (SpellsWithin d types) types (EventForm k) (roll-Value (layer.Event n (map (λ (z : Known). z.0) zs))) (parts_text (layer.Event n (map (λ (z : Known). z.0) zs)))) (eqb-true n m q.0)
@@ -182,9 +200,17 @@ module _ (types : List EventShape) (texts : HaveTexts types) where
       let text : pair_text types (roll-Pair p) ≡ text_in types y.key.0 ++ 58 ∷ text_in types y.value.0 = fold-roll-Pair (List ℕ) (List ℕ) (text_step types) pair_step p in
       let fit = ap (λ (f : PairFit). f key item) (fold-roll-Pair Fit PairFit (λ v t. fits types v (out-Shape t)) pair_fits p) in
       let both = and_parts (has types y.key.0 key) (has types y.value.0 item) (sym fit ∙ h) in
-      let sizes = pair_size (text_in types y.key.0) (text_in types y.value.0) d (subst (λ t. length t < d) text lt) in
-      (text_in types y.key.0, [], [], text_in types y.value.0, text ∙ simp (append_assoc, append-nil), tt, tt,
-          y.key.1 key d both.0 r a.0 sizes.0, y.value.1 item d both.1 q a.1 sizes.1)
+      let sizes = pair_size (text_in types y.key.0) (text_in types y.value.0) d (subst (λ t. length t < d) text lt) in (
+        text_in types y.key.0,
+        [],
+        [],
+        text_in types y.value.0,
+        text ∙ simp (append_assoc, append-nil),
+        tt,
+        tt,
+        y.key.1 key d both.0 r a.0 sizes.0,
+        y.value.1 item d both.1 q a.1 sizes.1,
+      )
 
   pair_case : (x : Pair-F Value Pair) (y : Pair-F Known KnownPair) → parts_in y ≡ x → PairWritten (roll-Pair x)
   pair_case x y is = subst (λ (z : Pair-F Value Pair). PairWritten (roll-Pair z)) is (rolled_pair y)

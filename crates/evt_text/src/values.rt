@@ -5,7 +5,9 @@ ghost use Rattle.evt_text.specs.Reading.{Reads, Passes, behind_lead, item_at, li
 use crate::TextFault;
 use crate::entries::put_entry;
 use crate::scanner::Scanner;
-use epl_values::{EventShape, EventShapes, Field, List, Ordered, Pair, Pairs, Shape, Value, Values};
+use epl_values::{
+    EventShape, EventShapes, Field, List, Ordered, Pair, Pairs, Shape, Value, Values,
+};
 use std::alloc::Global;
 
 /// Passes what stands before an item.

@@ -1,5 +1,4 @@
 use Rattle.std.proofs.Common.{◌≡◌, ◌∙◌, ap, OnOk, subst}
-use Rattle.epl_values.specs.Order.{KeysAscend}
 use Rattle.evt_text.specs.Entries.{place_in}
 use Rattle.evt_text.proofs.Ascending.{again_replaced, ascend_again, ascend_inserted, ordered_on_ok, with_inserted}
 use Rattle.evt_text.proofs.entries.put_entry.Goals as goal
