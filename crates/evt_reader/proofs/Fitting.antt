@@ -11,10 +11,12 @@ use Rattle.typed_program.specs.declared.program.Program.{Program}
 use Rattle.event_types.specs.Types.{fields_of}
 use Rattle.value_shapes.specs.Fits.{Fit, AllFit}
 use Rattle.value_shapes.proofs.Lists.{fit_nil, fit_cons}
-use Rattle.value_shapes.proofs.Made.{event_made, integer_fits, is_event_fits, text_fits}
+use Rattle.value_shapes.proofs.Made.{boolean_fits, dictionary_made, event_made, integer_fits, is_event_fits, sequence_made, text_fits}
 use Rattle.record_book.specs.Fits.{ItemFits, ItemsFit}
 use Rattle.event_types.specs.Types.{Form, form_of, form_step}
-use Rattle.evt_text.specs.Spelling.{SpellsFields, SpellsForm, SpellsWithin}
+use Rattle.evt_text.specs.Entries.{entered}
+use Rattle.evt_text.specs.Spelling.{SpellsEntry, SpellsFields, SpellsForm, SpellsWithin}
+use Rattle.evt_text.proofs.Known.{IsKnown, entered_ascend, entered_each, list_each}
 use Rattle.evt_reader.specs.Files.{AreItems}
 
 module _ (types : List EventShape) where
@@ -34,11 +36,18 @@ module _ (types : List EventShape) where
   layer_fits : (P : Form → Value → List ℕ → Type 0) → Inner P → (d : Shape-F Shape) (x : Value) (text : List ℕ) → SpellsForm P types (form_step (map-Shape Shape Form form_of d)) x text → Fit types x (roll-Shape d)
   layer_fits P inner layer.Integer x text (number, is, spells) =
       subst (Fit types x) (sym shape.rolls-Integer) (subst (λ v. Fit types v shape.Integer) (sym is) (integer_fits types number))
-  layer_fits P inner layer.Boolean x text h = absurd h
+  layer_fits P inner layer.Boolean x text (truth, is, spells) =
+      subst (Fit types x) (sym shape.rolls-Boolean) (subst (λ v. Fit types v shape.Boolean) (sym is) (boolean_fits types truth))
   layer_fits P inner layer.Text x text (bytes, is, spells) =
       subst (Fit types x) (sym shape.rolls-Text) (subst (λ v. Fit types v shape.Text) (sym is) (text_fits types bytes))
-  layer_fits P inner (layer.Sequence element) x text h = absurd h
-  layer_fits P inner (layer.Dictionary key item) x text h = absurd h
+  layer_fits P inner (layer.Sequence element) x text (items, is, spells) =
+      subst (Fit types x) (sym (shape.rolls-Sequence element)) (subst (λ v. Fit types v (shape.Sequence element)) (sym is)
+          (sequence_made types items element (list_each (P (form_of element)) (λ v. Fit types v element) (inner element) 91 93 items text spells)))
+  layer_fits P inner (layer.Dictionary key item) x text (entries, is, spells) =
+      let K = λ v. Fit types v key in
+      let V = λ v. Fit types v item in
+      let known = list_each (SpellsEntry (P (form_of key)) (P (form_of item))) (IsKnown K V) (λ p t h. (inner key _ _ h.7, inner item _ _ h.8)) 123 125 entries text spells in
+      subst (Fit types x) (sym (shape.rolls-Dictionary key item)) (subst (λ v. Fit types v (shape.Dictionary key item)) (sym is) (dictionary_made types (entered entries) key item (entered_each K V entries known) (entered_ascend entries)))
   layer_fits P inner (layer.Event n) x text (event, xs, there, is, (before, behind, inside, whole, blanks, more, spells)) =
       let fields = subst (λ (o : Option EventShape). AllFit types xs (map (λ f. f.shape) (fields_of o))) (sym there) (fields_fit P inner true event.fields xs inside spells) in
       subst (Fit types x) (sym (shape.rolls-Event n)) (subst (λ v. Fit types v (shape.Event n)) (sym is) (event_made types n xs event fields there))

@@ -5,32 +5,33 @@ use Rattle.evt_text.specs.Spelling.{Spells}
 use Rattle.evt_text.specs.Reading.{value_from}
 use Rattle.evt_text.proofs.Cases.{pair-some}
 use Rattle.evt_text.proofs.Nesting.{form_of-event}
-use Rattle.event_types.proofs.Depths.{deep-enough_one as deep-enough}
-use Rattle.evt_text.proofs.Renested.{event-whole}
+use Rattle.evt_text.proofs.Renested.{value-whole}
 
 pub get-below : (types : List EventShape) (n : ℕ) (event : EventShape) → slice_get types n ≡ Some event → n < length types
 get-below [] n event e = absurd (none-some _ e)
 get-below (t ∷ ts) zero event e = omega arith
 get-below (t ∷ ts) (suc n) event e = let k = get-below ts n event e in omega arith
 
-type-below : (types : List EventShape) (depth n : ℕ) (x : Value) (spelling : List ℕ) → SpellsWithin depth types (EventForm n) x spelling → n < length types
-type-below types zero n x spelling h = absurd h
-type-below types (suc depth) n x spelling (event, xs, found, is, s) = get-below types n event found
-
 event-within : (types : List EventShape) (n : ℕ) (x : Value) (spelling : List ℕ) → Spells types (Event n) x spelling → (depth : ℕ) × SpellsWithin depth types (EventForm n) x spelling
 event-within types n x spelling h = (h.0, rw form_of-event at h.1)
 
-event-read-again : (types : List EventShape) → HasNames types → HasKnownFields types → HasNoCycle types → (n : ℕ) (x : Value) (spelling rest : List ℕ) → Spells types (Event n) x spelling
-    → value_from (length types + 1) types (EventForm n) (spelling ++ rest) ≡ Some (x, rest)
-event-read-again types names known none n x spelling rest h =
-    let s = event-within types n x spelling h in
-    event-whole types names (length types + 1) s.0 n x spelling rest (deep-enough types (n ∷ []) known none (type-below types s.0 n x spelling s.1, tt)) s.1
+event-read-again : (types : List EventShape) → HasNames types → (limit n : ℕ) (x : Value) (spelling rest : List ℕ) → length spelling < limit → Spells types (Event n) x spelling
+    → value_from limit types (EventForm n) (spelling ++ rest) ≡ Some (x, rest)
+event-read-again types names limit n x spelling rest lt h =
+    let s = event-within types n x spelling h in value-whole types names limit s.0 (EventForm n) x spelling rest tt lt s.1
 
 -- two events of one type that are spelled at one place are the same
+pub event-alike : (types : List EventShape) → HasNames types → (n : ℕ) (x y : Value) (spelling rest spelling' rest' : List ℕ)
+    → Spells types (Event n) x spelling → Spells types (Event n) y spelling' → spelling ++ rest ≡ spelling' ++ rest' → (x ≡ y) × (rest ≡ rest')
+event-alike types names n x y spelling rest spelling' rest' h k e =
+    let limit = suc (length spelling + length spelling') in
+    let first : length spelling < suc (length spelling + length spelling') = omega arith in
+    let second : length spelling' < suc (length spelling + length spelling') = omega arith in
+    pair-some _ _ _ _ (sym (event-read-again types names limit n x spelling rest first h) ∙ ap (value_from limit types (EventForm n)) e ∙ event-read-again types names limit n y spelling' rest' second k)
+
 pub event-same : (types : List EventShape) → HasNames types → HasKnownFields types → HasNoCycle types → (n : ℕ) (x y : Value) (spelling rest spelling' rest' : List ℕ)
     → Spells types (Event n) x spelling → Spells types (Event n) y spelling' → spelling ++ rest ≡ spelling' ++ rest' → (x ≡ y) × (rest ≡ rest')
-event-same types names known none n x y spelling rest spelling' rest' h k e =
-    pair-some _ _ _ _ (sym (event-read-again types names known none n x spelling rest h) ∙ ap (value_from (length types + 1) types (EventForm n)) e ∙ event-read-again types names known none n y spelling' rest' k)
+event-same types names known none n x y spelling rest spelling' rest' h k e = event-alike types names n x y spelling rest spelling' rest' h k e
 
 -- a byte that can't go on with a name is in front
 abbrev pub EndsName : List ℕ → Type 0

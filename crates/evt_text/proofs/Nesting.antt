@@ -11,7 +11,7 @@ unfolding value_from
 value_from-zero zero types form text e = refl
 value_from-zero (suc depth) types form text e = absurd (omega arith)
 
-pub value_from-suc : (depth : ℕ) (types : List EventShape) (form : Form) (text : List ℕ) → 0 < depth → value_from depth types form text ≡ form_at (value_from (depth - 1) types) types form text
+pub value_from-suc : (depth : ℕ) (types : List EventShape) (form : Form) (text : List ℕ) → 0 < depth → value_from depth types form text ≡ form_at (value_from (depth - 1) types) (depth - 1) types form text
 unfolding value_from
 value_from-suc zero types form text lt = absurd (omega arith)
 value_from-suc (suc depth) types form text lt = rw sub-one refl
@@ -19,6 +19,6 @@ value_from-suc (suc depth) types form text lt = rw sub-one refl
 pub form_of-event : (n : ℕ) → form_of (Event n) ≡ EventForm n
 form_of-event n = search (rules, the_lemmas)
 
-pub past-types : (one : Form → List ℕ → Option (Value × List ℕ)) (types : List EventShape) (shape : Shape) (n : ℕ) (text : List ℕ) → shape ≡ Event n → length types ≤ n
-    → form_at one types (form_of shape) text ≡ None
-past-types one types shape n text e le = rw (e, form_of-event, slice_get_past types n le) refl
+pub past-types : (one : Form → List ℕ → Option (Value × List ℕ)) (limit : ℕ) (types : List EventShape) (shape : Shape) (n : ℕ) (text : List ℕ) → shape ≡ Event n → length types ≤ n
+    → form_at one limit types (form_of shape) text ≡ None
+past-types one limit types shape n text e le = rw (e, form_of-event, slice_get_past types n le) refl

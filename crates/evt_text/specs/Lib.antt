@@ -1,4 +1,6 @@
 pub mod Common
+pub mod Entries
 pub mod Forms
+pub mod Readable
 pub mod Reading
 pub mod Spelling

@@ -1,11 +1,13 @@
 -- Reading a value from left to right: the value and what follows it, or nothing.
-use Rattle.evt_text.specs.Common.{ℕ, ℤ, pos, neg_ℤ, zero, suc, List, [], length, Bool, true, false, nat_le, Option, Some, None, Result, Ok, Err, Field, EventShape, Value, Form, IntegerForm, TextForm, EventForm}
+use Rattle.evt_text.specs.Common.{ℕ, ℤ, pos, neg_ℤ, zero, suc, List, [], length, Bool, true, false, nat_le, Option, Some, None, Result, Ok, Err, Field, EventShape, Value, Pair, Form, IntegerForm, BooleanForm, TextForm, SequenceForm, DictionaryForm, EventForm}
 use Rattle.std.specs.Prelude.{◌≡◌, ◌∷◌, ◌++◌, ◌==◌, ◌&&◌, if◌then◌else◌, ◌+◌, ◌-◌, ◌*◌, slice_get}
 use Rattle.std.specs.Option.{option_map}
 use Rattle.epl_values.specs.declared.value.Value.TheVariants as value
 use Rattle.evt_text.specs.Forms.{is_digit}
 use Rattle.event_types.specs.Types.{form_of}
+use Rattle.value_rules.specs.Texts.{truth_text}
 use Rattle.evt_text.specs.Spelling.{is_blank, is_plain, escaped}
+use Rattle.evt_text.specs.Entries.{entry, with_entries}
 use Rattle.evt_text.specs.declared.fault.TextFault.{TextFault}
 use Rattle.evt_text.specs.declared.fault.TextFault.TheVariants.{NoValue, Memory}
 
@@ -42,6 +44,24 @@ abbrev pub behind_name : List ℕ → List ℕ → Option (List ℕ)
 behind_name [] text = Some text
 behind_name (n ∷ ns) [] = None
 behind_name (n ∷ ns) (b ∷ bs) = if b == n then behind_name ns bs else None
+
+-- whether a sign was in front; then it is passed, and else nothing changes
+abbrev pub Closes : Bool → ℕ → List ℕ → List ℕ → Type 0
+Closes true sign old new = behind_sign sign old ≡ Some new
+Closes false sign old new = (behind_sign sign old ≡ None) × (new ≡ old)
+
+-- what follows an opening sign and the blanks behind it
+unfoldable pub behind_opening : ℕ → List ℕ → Option (List ℕ)
+behind_opening sign text = option_map behind_blanks (behind_sign sign text)
+
+-- true where its text was in front, else false where its text was
+abbrev pub truth_or : Option (List ℕ) → Option (List ℕ) → Option (Bool × List ℕ)
+truth_or (Some rest) other = Some (true, rest)
+truth_or None other = option_map (λ rest. (false, rest)) other
+
+-- a truth
+unfoldable pub truth_at : List ℕ → Option (Bool × List ℕ)
+truth_at text = truth_or (behind_name (truth_text true) text) (behind_name (truth_text false) text)
 
 -- the value of a digit, and what follows it
 abbrev pub digit_at : List ℕ → Option (ℕ × List ℕ)
@@ -99,37 +119,62 @@ within_limit read = if nat_le (length read.0) 1048576 then Some read else None
 unfoldable pub string_at : List ℕ → Option (List ℕ × List ℕ)
 string_at text = behind_sign 34 text >>= λ inner. inside_from false inner >>= within_limit
 
--- what stands before a field: nothing before the first, else a comma and blanks
+-- what stands before an item: nothing before the first, else a comma and blanks
 unfoldable pub behind_lead : Bool → List ℕ → Option (List ℕ)
 behind_lead true text = Some text
 behind_lead false text = option_map behind_blanks (behind_sign 44 text)
 
--- one field with its lead, and the blanks behind it
-unfoldable pub field_at : (Form → List ℕ → Option (Value × List ℕ)) → Bool → Field → List ℕ → Option (Value × List ℕ)
-field_at one first field text = behind_lead first text >>= λ r. one (form_of field.shape) r >>= λ x. Some (x.0, behind_blanks x.1)
+-- one item with its lead, and the blanks behind it
+unfoldable pub item_at : {X : Type 0} → (List ℕ → Option (X × List ℕ)) → Bool → List ℕ → Option (X × List ℕ)
+item_at one first text = behind_lead first text >>= λ r. one r >>= λ x. Some (x.0, behind_blanks x.1)
 
 -- the fields in order, with the blanks behind each
 abbrev pub fields_from : (Form → List ℕ → Option (Value × List ℕ)) → Bool → List Field → List ℕ → Option (List Value × List ℕ)
 fields_from one first [] text = Some ([], text)
-fields_from one first (field ∷ fields) text = field_at one first field text >>= λ x. with_front (x.0 ∷ []) (fields_from one false fields x.1)
+fields_from one first (field ∷ fields) text = item_at (one (form_of field.shape)) first text >>= λ x. with_front (x.0 ∷ []) (fields_from one false fields x.1)
+
+-- nothing more where the list was closed, else what is read
+abbrev pub unless_closed : {X : Type 0} → Option (List ℕ) → Option (List X × List ℕ) → Option (List X × List ℕ)
+unless_closed (Some rest) more = Some ([], rest)
+unless_closed None more = more
+
+-- fewer items than so many, up to a closing sign
+abbrev pub items_from : {X : Type 0} → (List ℕ → Option (X × List ℕ)) → ℕ → ℕ → Bool → List ℕ → Option (List X × List ℕ)
+items_from one right zero first text = None
+items_from one right (suc n) first text = unless_closed (behind_sign right text) (item_at one first text >>= λ x. with_front (x.0 ∷ []) (items_from one right n false x.1))
+
+-- fewer items than so many between two brackets
+unfoldable pub list_at : {X : Type 0} → (List ℕ → Option (X × List ℕ)) → ℕ → ℕ → ℕ → List ℕ → Option (List X × List ℕ)
+list_at one left right n text = behind_opening left text >>= items_from one right n true
+
+-- a key, a colon and a value, with blanks between
+unfoldable pub entry_at : (List ℕ → Option (Value × List ℕ)) → (List ℕ → Option (Value × List ℕ)) → List ℕ → Option (Pair × List ℕ)
+entry_at key item text = key text >>= λ k. behind_sign 58 (behind_blanks k.1) >>= λ r. item (behind_blanks r) >>= λ x. Some (entry k.0 x.0, x.1)
+
+-- entries that are read are put in, one after the other
+abbrev pub put_in : List Pair → Option (List Pair × List ℕ) → Option (List Pair × List ℕ)
+put_in pairs read = option_map (λ x. (with_entries pairs x.0, x.1)) read
 
 -- a name, and the values of its fields in brackets, with blanks between
 unfoldable pub event_at : (Form → List ℕ → Option (Value × List ℕ)) → EventShape → List ℕ → Option (List Value × List ℕ)
-event_at one event text = behind_name event.name text >>= λ a. behind_sign 40 (behind_blanks a) >>= λ b. fields_from one true event.fields (behind_blanks b) >>= λ x. behind_sign 41 x.1 >>= λ c. Some (x.0, c)
+event_at one event text = behind_name event.name text >>= λ a. behind_opening 40 (behind_blanks a) >>= λ b. fields_from one true event.fields b >>= λ x. behind_sign 41 x.1 >>= λ c. Some (x.0, c)
 
 -- an event of the type with this number, if there is one
 abbrev pub typed_at : (Form → List ℕ → Option (Value × List ℕ)) → ℕ → Option EventShape → List ℕ → Option (Value × List ℕ)
 typed_at one n None text = None
 typed_at one n (Some event) text = event_at one event text >>= λ x. Some (value.Event n x.0, x.1)
 
--- a value of a form, by what reads the values inside
-abbrev pub form_at : (Form → List ℕ → Option (Value × List ℕ)) → List EventShape → Form → List ℕ → Option (Value × List ℕ)
-form_at one types IntegerForm text = integer_at text >>= λ x. Some (value.Integer x.0, x.1)
-form_at one types TextForm text = string_at text >>= λ x. Some (value.Text x.0, x.1)
-form_at one types (EventForm n) text = typed_at one n (slice_get types n) text
-form_at one types form text = None
+-- a value of a form, by what reads the values inside; a list in it has fewer items than so many
+abbrev pub form_at : (Form → List ℕ → Option (Value × List ℕ)) → ℕ → List EventShape → Form → List ℕ → Option (Value × List ℕ)
+form_at one n types IntegerForm text = integer_at text >>= λ x. Some (value.Integer x.0, x.1)
+form_at one n types BooleanForm text = truth_at text >>= λ x. Some (value.Boolean x.0, x.1)
+form_at one n types TextForm text = string_at text >>= λ x. Some (value.Text x.0, x.1)
+form_at one n types (SequenceForm element) text = list_at (one element) 91 93 n text >>= λ x. Some (value.Sequence x.0, x.1)
+form_at one n types (DictionaryForm key item) text = put_in [] (list_at (entry_at (one key) (one item)) 123 125 n text) >>= λ x. Some (value.Dictionary x.0, x.1)
+form_at one n types (EventForm k) text = typed_at one k (slice_get types k) text
+form_at one n types form text = None
 
--- a value of a form, nested at most so deep
+-- a value of a form, nested at most so deep, with fewer items than that in each list
 unfoldable pub value_from : ℕ → List EventShape → Form → List ℕ → Option (Value × List ℕ)
 value_from zero types form text = None
-value_from (suc depth) types form text = form_at (value_from depth types) types form text
+value_from (suc n) types form text = form_at (value_from n types) n types form text

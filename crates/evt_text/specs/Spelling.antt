@@ -1,10 +1,13 @@
 -- How values are spelled in an event file.
-use Rattle.evt_text.specs.Common.{ℕ, ℤ, pos, neg_ℤ, zero, suc, List, [], length, Bool, true, false, IsTrue, Option, Some, None, Result, Ok, Err, AllByRecursion, Field, EventShape, Value, Form, IntegerForm, TextForm, EventForm}
+use Rattle.evt_text.specs.Common.{ℕ, ℤ, pos, neg_ℤ, zero, suc, List, [], length, Bool, true, false, IsTrue, Option, Some, None, Result, Ok, Err, AllByRecursion, Field, EventShape, Value, Pair, Form, IntegerForm, BooleanForm, TextForm, SequenceForm, DictionaryForm, EventForm}
 use Rattle.std.specs.Prelude.{◌≡◌, ◌≤◌, ◌∷◌, ◌++◌, ◌==◌, ◌||◌, if◌then◌else◌, ◌<◌, ◌^◌, ◌⊎◌, not, slice_get, slice_range}
 use Rattle.std.specs.Str.Parse.{IsNumeral, digits_value}
 use Rattle.epl_values.specs.declared.shape.Shape.{Shape}
 use Rattle.epl_values.specs.declared.value.Value.TheVariants as value
+use Rattle.epl_values.specs.declared.value.Pair.{out-Pair}
 use Rattle.event_types.specs.Types.{form_of}
+use Rattle.value_rules.specs.Texts.{truth_text}
+use Rattle.evt_text.specs.Entries.{entered}
 use Rattle.evt_text.specs.declared.fault.TextFault.{TextFault}
 use Rattle.evt_text.specs.declared.fault.TextFault.TheVariants as fault
 
@@ -42,7 +45,7 @@ SpellsBytes (byte ∷ bytes) text = (front rest : List ℕ) × (text ≡ front +
 abbrev pub SpellsString : List ℕ → List ℕ → Type 0
 SpellsString bytes text = (inner : List ℕ) × (text ≡ 34 ∷ inner ++ 34 ∷ []) × SpellsBytes bytes inner × (length bytes ≤ 1048576)
 
--- what stands before a field: nothing before the first, else a comma and blanks
+-- what stands before an item: nothing before the first, else a comma and blanks
 abbrev pub IsLead : Bool → List ℕ → Type 0
 IsLead true text = text ≡ []
 IsLead false text = (blanks : List ℕ) × (text ≡ 44 ∷ blanks) × AreBlanks blanks
@@ -54,15 +57,33 @@ SpellsFields P first (field ∷ fields) (x ∷ xs) text = (lead spelling blanks 
     × IsLead first lead × P (form_of field.shape) x spelling × AreBlanks blanks × SpellsFields P false fields xs rest
 SpellsFields P first fields xs text = ⊥
 
+-- items in order, where `Q` spells one; blanks may stand behind each
+abbrev pub SpellsItems : {X : Type 0} → (X → List ℕ → Type 0) → Bool → List X → List ℕ → Type 0
+SpellsItems Q first [] text = text ≡ []
+SpellsItems Q first (x ∷ xs) text = (lead spelling blanks rest : List ℕ) × (text ≡ lead ++ spelling ++ blanks ++ rest)
+    × IsLead first lead × Q x spelling × AreBlanks blanks × SpellsItems Q false xs rest
+
+-- items between two brackets
+abbrev pub SpellsList : {X : Type 0} → (X → List ℕ → Type 0) → ℕ → ℕ → List X → List ℕ → Type 0
+SpellsList Q left right xs text = (blanks inner : List ℕ) × (text ≡ left ∷ blanks ++ inner ++ right ∷ []) × AreBlanks blanks × SpellsItems Q true xs inner
+
+-- a key, a colon and a value, where `K` spells the key and `V` the value
+abbrev pub SpellsEntry : (Value → List ℕ → Type 0) → (Value → List ℕ → Type 0) → Pair → List ℕ → Type 0
+SpellsEntry K V pair text = (key before behind item : List ℕ) × (text ≡ key ++ before ++ 58 ∷ behind ++ item)
+    × AreBlanks before × AreBlanks behind × K (out-Pair pair).key key × V (out-Pair pair).value item
+
 -- a name, and the values of its fields in brackets
 abbrev pub SpellsEvent : (Form → Value → List ℕ → Type 0) → EventShape → List Value → List ℕ → Type 0
 SpellsEvent P event xs text = (before behind inner : List ℕ) × (text ≡ event.name ++ before ++ 40 ∷ behind ++ inner ++ 41 ∷ [])
     × AreBlanks before × AreBlanks behind × SpellsFields P true event.fields xs inner
 
--- a value of a form, where `P` spells the values inside; a form that isn't named has no text yet
+-- a value of a form, where `P` spells the values inside; contexts and listeners have no text; in a dictionary a later equal key replaces
 abbrev pub SpellsForm : (Form → Value → List ℕ → Type 0) → List EventShape → Form → Value → List ℕ → Type 0
 SpellsForm P types IntegerForm x text = (number : ℤ) × (x ≡ value.Integer number) × SpellsInteger number text
+SpellsForm P types BooleanForm x text = (truth : Bool) × (x ≡ value.Boolean truth) × (text ≡ truth_text truth)
 SpellsForm P types TextForm x text = (bytes : List ℕ) × (x ≡ value.Text bytes) × SpellsString bytes text
+SpellsForm P types (SequenceForm element) x text = (items : List Value) × (x ≡ value.Sequence items) × SpellsList (P element) 91 93 items text
+SpellsForm P types (DictionaryForm key item) x text = (entries : List Pair) × (x ≡ value.Dictionary (entered entries)) × SpellsList (SpellsEntry (P key) (P item)) 123 125 entries text
 SpellsForm P types (EventForm n) x text = (event : EventShape) × (xs : List Value) × (slice_get types n ≡ Some event) × (x ≡ value.Event n xs) × SpellsEvent P event xs text
 SpellsForm P types form x text = ⊥
 

@@ -10,7 +10,8 @@ use epl_values::{EventShapes, Shape, Value};
 use std::alloc::Global;
 
 /// The value of this shape with the longest spelling from byte `at` on, and the place behind that spelling.
-/// `NoValue` exactly where none is spelled there.
+/// `NoValue` exactly where none is spelled there. Calls nest as the text does, and no deeper than the shape and the event
+/// types allow; that no type contains itself keeps a long text from nesting them past the stack.
 pub fn value_at(
     alloc: Global,
     text: &str,
@@ -28,7 +29,8 @@ pub fn value_at(
     if !text.is_char_boundary(at) {
         return Err(TextFault::NoValue);
     }
-    let mut scanner = Scanner { rest: &text[at..] };
-    let value = value(alloc, &mut scanner, shape, types, types.len() + 1)?;
+    let rest = &text[at..];
+    let mut scanner = Scanner { rest };
+    let value = value(alloc, &mut scanner, shape, types, rest.len() + 1)?;
     Ok((value, text.len() - scanner.rest.len()))
 }

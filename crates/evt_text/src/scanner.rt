@@ -1,6 +1,6 @@
 ghost use Rattle.std.specs.Option.{option_map};
 ghost use Rattle.std.specs.Prelude.{◌≡◌, ◌∷◌, [], ◌<◌, false, length, MatchOption};
-ghost use Rattle.evt_text.specs.Reading.{Reads, Passes, behind_blanks, behind_sign, behind_name, integer_at, inside_from, plain_front, behind_plain, escape_at, string_at};
+ghost use Rattle.evt_text.specs.Reading.{Reads, Passes, Closes, behind_blanks, behind_opening, truth_at, behind_sign, behind_name, integer_at, inside_from, plain_front, behind_plain, escape_at, string_at};
 ghost use Rattle.evt_text.specs.Spelling.{escaped};
 
 use crate::TextFault;
@@ -67,6 +67,29 @@ impl<'a> Scanner<'a> {
         Ok(())
     }
 
+    /// Passes an opening sign and the blanks behind it.
+    #[tactic(auto, unfolding(crate::specs::Reading::behind_opening))]
+    pub fn opens(&mut self, sign: char) -> Result<(), TextFault>
+        requires { sign < 128 }
+        ensures { Passes result self.new.rest.now (behind_opening sign self.old.rest.now) }
+    {
+        self.sign(sign)?;
+        self.blanks();
+        Ok(())
+    }
+
+    /// Whether a closing sign is in front; then it is passed, and else nothing is.
+    pub fn closes(&mut self, sign: char) -> bool
+        requires { sign < 128 }
+        ensures { Closes result sign self.old.rest.now self.new.rest.now }
+    {
+        let Some(rest) = behind_sign(self.rest, sign) else {
+            return false;
+        };
+        self.rest = rest;
+        true
+    }
+
     /// Passes a name.
     pub fn name(&mut self, name: &str) -> Result<(), TextFault>
         ensures { Passes result self.new.rest.now (behind_name name.now self.old.rest.now) }
@@ -76,6 +99,19 @@ impl<'a> Scanner<'a> {
         };
         self.rest = rest;
         Ok(())
+    }
+
+    /// Reads `true` or `false`.
+    #[tactic(auto, unfolding(crate::specs::Reading::truth_at))]
+    pub fn truth(&mut self) -> Result<bool, TextFault>
+        ensures { Reads result self.new.rest.now (truth_at self.old.rest.now) }
+    {
+        if let Some(rest) = behind_name(self.rest, "true") {
+            self.rest = rest;
+            return Ok(true);
+        }
+        self.name("false")?;
+        Ok(false)
     }
 
     /// Reads an integer.
