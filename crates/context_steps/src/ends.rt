@@ -1,4 +1,4 @@
-ghost use Rattle.std.specs.Prelude.{◌≡◌, [], IfOk, OnOk};
+ghost use Rattle.std.specs.Prelude.{◌≡◌, [], true, false, IfOk, OnOk};
 ghost use Rattle.plain_host.specs.Told.{told_of};
 ghost use Rattle.typed_program.specs.Typed.{Typed};
 ghost use Rattle.context_meaning.specs.Contexts.{scene_of};

@@ -1,4 +1,4 @@
-ghost use Rattle.std.specs.Prelude.{◌≡◌, ◌<◌, ◌≤◌, ◌+◌, ◌-◌, ◌^◌, [], map, slice_get, Some, IfOk, OnOk};
+ghost use Rattle.std.specs.Prelude.{◌≡◌, ◌<◌, ◌≤◌, ◌+◌, ◌-◌, ◌^◌, [], length, map, slice_get, Some, IfOk, OnOk};
 ghost use Rattle.std.specs.Option.{option_copied};
 ghost use Rattle.epl_values.specs.declared.value.Value.{Value, out-Value};
 ghost use Rattle.typed_program.specs.Typed.{Typed};
@@ -200,6 +200,7 @@ fn entry_load<R: BodyRunner>(
     requires typed { Typed around.now.program.now }
     requires keeps { Keeps around.now.program.now }
     requires fits { ContextFits around.now.program.now context.old }
+    requires there { monitor < length around.now.program.now.monitors }
     requires fuel { IsSmall context.old }
     ensures means { OnOk result (SettlesAs around.now.program.now (load.Load monitor) context.old context.new) }
     ensures small { OnOk result (IsSmall context.new) }

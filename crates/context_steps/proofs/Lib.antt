@@ -1,0 +1,7 @@
+mod Common
+pub mod Bounds
+pub mod Callbacks
+pub mod Fronts
+pub mod Keeping
+pub mod Rows
+pub mod Runs
