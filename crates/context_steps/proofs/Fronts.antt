@@ -4,13 +4,15 @@ use Rattle.context_steps.proofs.Common.{ℕ, zero, suc, Bool, true, false, cond,
 use Rattle.std.specs.List.{All}
 use Rattle.typed_program.specs.declared.program.Monitor.{Monitor}
 use Rattle.record_book.specs.declared.cargo.Cargo.{Cargo}
+use Rattle.record_book.specs.declared.cargo.Cargo.TheVariants as cargo
 use Rattle.record_book.specs.Fits.{CargoFits}
+use Rattle.context_meaning.specs.declared.context.Waiting.TheVariants as waiting
 use Rattle.context_meaning.specs.declared.context.Waiting.{Waiting}
 use Rattle.context_meaning.specs.declared.context.Stimulus.TheVariants as stimulus
-use Rattle.context_meaning.specs.Contexts.{has_instances, with_front, with_instance}
+use Rattle.context_meaning.specs.Contexts.{has_instances, row_in_front, with_front, with_instance}
 use Rattle.context_meaning.specs.Fits.{InstanceFits, WaitingFits}
-use Rattle.context_meaning.specs.Turns.{cargo_handled, defaults_in, first_handled, front_handled, front_weight, settled, stimulated, thing_handled}
-use Rattle.context_meaning.proofs.Common.{All-head, All-tail}
+use Rattle.context_meaning.specs.Turns.{cargo_handled, defaults_in, first_handled, front_handled, front_weight, loaded, settled, stimulated, thing_handled}
+use Rattle.std.proofs.lemmas.List.Elements.{All-head, All-tail}
 use Rattle.context_meaning.proofs.Handling.{with_front_fits}
 use Rattle.context_meaning.proofs.Marks.{stimulated_completed}
 use Rattle.context_meaning.proofs.Resting.{cargo_row, thing_row}
@@ -105,3 +107,11 @@ settles_same program load c r keeps fit is so = record {
   row = ap (λ (x : Context). x.row) so ∙ cargo_row program load c;
   fits = subst (ContextFits program) (sym so) (keeps.cargo load c fit is);
 }
+
+-- an event, and then its mark behind its row
+pub settles_event : (program : Program) (e v : Value) (c d r : Context) → Keeps program → ContextFits program c → CargoFits program (cargo.Event e) → d ≡ stimulated program (stimulus.Event e) c → v ≡ e → r ≡ row_in_front (waiting.Completed v ∷ []) d → SettlesAs program (cargo.Event e) c r
+settles_event program e v c d r keeps fit is d_is v_is so = settles_same program (cargo.Event e) c r keeps fit is (so ∙ ap (λ (x : Value). row_in_front (waiting.Completed x ∷ []) d) v_is ∙ ap (row_in_front (waiting.Completed e ∷ [])) d_is)
+
+-- a load
+pub settles_load : (program : Program) (monitor : ℕ) (c d r : Context) → Keeps program → ContextFits program c → CargoFits program (cargo.Load monitor) → d ≡ loaded program monitor c → r ≡ row_in_front [] d → SettlesAs program (cargo.Load monitor) c r
+settles_load program monitor c d r keeps fit is d_is so = settles_same program (cargo.Load monitor) c r keeps fit is (so ∙ ap (row_in_front []) d_is)

@@ -2,6 +2,7 @@ mod Common
 pub mod Bounds
 pub mod Callbacks
 pub mod Fronts
+pub mod Handled
 pub mod Keeping
 pub mod Rows
 pub mod Runs

@@ -13,7 +13,7 @@ use Rattle.context_meaning.specs.Ends.{come, dying, ended}
 use Rattle.context_meaning.specs.Fits.{MayRun}
 use Rattle.context_meaning.proofs.Finding.{number_is}
 use Rattle.live_context.specs.Lent.{lent}
-use Rattle.live_context.specs.declared.live.Lent.{Lent}
+use Rattle.live_context.specs.declared.lent.Lent.{Lent}
 use Rattle.live_context.proofs.Places.{missing_put}
 use Rattle.live_context.proofs.Lending.{put_back}
 use Rattle.context_steps.specs.Steps.{CanRun, Stands, Came, numbered, ondie_in, ondie_of, told_first}

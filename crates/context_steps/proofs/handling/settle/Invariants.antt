@@ -6,8 +6,8 @@ use Rattle.context_steps.proofs.handling.settle.Given as goal
 
 abbrev pub invariant-front : goal.invariant-front
 invariant-front g l = record {
-  means : settled l.around.program l.context ≡ settled l.around.program l.initial.context;
-  fits : ContextFits l.around.program l.context;
+  means : settled l.around.program.now l.context ≡ settled l.around.program.now l.initial.context;
+  fits : ContextFits l.around.program.now l.context;
   row : l.context.row ≡ [];
   small : IsSmall l.context;
 }
