@@ -171,7 +171,7 @@ fn thing<R: BodyRunner>(
 
 // ---- an entry
 
-/// The event of an entry is handled, and its mark too where it would be the next thing, so that it isn't copied.
+/// The event of an entry is handled, and a copy of it is its mark.
 fn entry_event<R: BodyRunner>(
     around: &Around<'_, R>,
     context: &mut LiveContext,
@@ -187,7 +187,8 @@ fn entry_event<R: BodyRunner>(
     ensures small { OnOk result (IsSmall context.new) }
 {
     event(around, context, value)?;
-    context.put_in_front(Some(Waiting::Completed(copy(around.alloc, value)?)))
+    let completed = copy(around.alloc, value)?;
+    context.put_in_front(Some(Waiting::Completed(completed)))
 }
 
 /// A load is handled.
