@@ -4,7 +4,7 @@ use Rattle.std.proofs.Common.{◌+◌, ◌<◌, ◌∷◌, ◌++◌, ◌≡◌, 
 use Rattle.std.proofs.Math.Seq.{drop-cons}
 use Rattle.epl_values.specs.declared.shape.EventShape.{EventShape}
 use Rattle.typed_program.specs.declared.program.Local.{Local}
-use Rattle.context_meaning.specs.Turns.{bound_from}
+use Rattle.context_meaning.specs.Listening.{bound_from}
 use Rattle.context_steps.specs.Calls.{bound_value}
 
 next_drop : (bs : List Local) (k : ℕ) (b : Local) → k < length bs → b ≡ get_or bs k b → drop k bs ≡ b ∷ drop (k + 1) bs

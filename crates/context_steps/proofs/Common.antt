@@ -1,21 +1,18 @@
 -- The names that most files here cite, passed on from one place. Declares nothing.
-pub use Rattle.std.proofs.Common.{Bool, List, None, Option, Some, [], ap, arith, cond, eqb, false, length, ltb, refl, slice_get, slice_set, subst, suc, sym, true, zero, ℕ, ◌∙◌}
-pub use Rattle.std.proofs.lemmas.Bool.Decides.{nat_tests}
+pub use Rattle.std.proofs.Common.{Bool, List, None, Option, Some, [], ap, arith, cond, eqb, false, length, ltb, refl, slice_get, subst, suc, sym, true, zero, ℕ, ◌∙◌}
 pub use Rattle.std.specs.List.{find}
 pub use Rattle.std.specs.Prelude.{nat_le}
 pub use Rattle.action_host.specs.declared.host.Effect.{Effect}
 pub use Rattle.action_host.specs.declared.host.End.{End}
 pub use Rattle.body_meaning.specs.Acts.{Act}
-pub use Rattle.context_meaning.specs.Contexts.{apply, apply_all, charged, instance_of, is_instance, put_globals, spend, unless_spent}
-pub use Rattle.context_meaning.specs.Ends.{act_in, fault_line, finished, idle, last_run, ondie_of, ran, run_in, taken}
+pub use Rattle.context_meaning.specs.Contexts.{Context, behind_charge, instance_of, is_instance, paid, put_globals, spend, unless_spent, with_fuel, with_globals, with_some}
+pub use Rattle.context_meaning.specs.Ends.{act_in, apply, apply_all, fault_line, finished, idle, last_run, ran, run_in, with_act}
 pub use Rattle.context_meaning.specs.Fits.{ContextFits}
-pub use Rattle.context_meaning.specs.Turns.{event_handled, is_born, stepped_born}
-pub use Rattle.context_meaning.specs.declared.context.Context.{Context}
+pub use Rattle.context_meaning.specs.Turns.{stepped_born}
 pub use Rattle.context_meaning.specs.declared.context.Instance.{Instance}
 pub use Rattle.context_meaning.specs.declared.context.Listener.{Listener}
 pub use Rattle.context_steps.specs.Calls.{call_found}
-pub use Rattle.context_steps.specs.Fronts.{with_front}
-pub use Rattle.context_steps.specs.Steps.{CanRunIn, FoundAt, Keeps}
+pub use Rattle.context_steps.specs.Steps.{CanRunIn, Keeps}
 pub use Rattle.context_steps.specs.declared.turns.Call.{Call}
 pub use Rattle.epl_values.specs.declared.value.Value.{Value}
 pub use Rattle.typed_program.specs.declared.program.Program.{Program}

@@ -1,23 +1,32 @@
--- Loads, and what waits in front.
-use Rattle.context_steps.proofs.Common.{ℕ, zero, suc, Bool, true, false, cond, List, [], Some, slice_get, refl, sym, ap, subst, ◌∙◌, arith, Value, Program, Context, unless_spent, ran, event_handled, ContextFits, CanRunIn, Keeps, with_front}
-use Rattle.std.proofs.Common.{◌+◌, ◌-◌, ◌<◌, ◌∷◌, ◌≡◌, ◌++◌, reverse}
-use Rattle.std.proofs.lemmas.List.{reverse-append}
+-- Loads, marks, and what waits in front.
+use Rattle.std.proofs.Common.{◌+◌, ◌*◌, ◌-◌, ◌<◌, ◌∷◌, ◌≡◌, ◌++◌, length}
+use Rattle.context_steps.proofs.Common.{ℕ, zero, suc, Bool, true, false, cond, List, [], Option, Some, None, slice_get, refl, sym, ap, subst, ◌∙◌, arith, Value, Program, Context, paid, with_some, ran, ContextFits, CanRunIn, Keeps}
+use Rattle.std.specs.List.{All}
 use Rattle.typed_program.specs.declared.program.Monitor.{Monitor}
 use Rattle.record_book.specs.declared.cargo.Cargo.{Cargo}
-use Rattle.context_meaning.specs.Contexts.{with_instance}
-use Rattle.context_meaning.specs.Turns.{defaults_in, first_handled, front_handled, drained, rowed, handled}
+use Rattle.record_book.specs.declared.cargo.Cargo.TheVariants as cargo
 use Rattle.record_book.specs.Fits.{CargoFits}
-use Rattle.context_steps.specs.Fronts.{Waits}
-use Rattle.context_steps.proofs.Apart.{event_apart}
-use Rattle.context_steps.proofs.Callbacks.{can_globals}
+use Rattle.context_meaning.specs.declared.context.Waiting.TheVariants as waiting
+use Rattle.context_meaning.specs.declared.context.Waiting.{Waiting}
+use Rattle.context_meaning.specs.declared.context.Stimulus.TheVariants as stimulus
+use Rattle.context_meaning.specs.Contexts.{has_instances, row_in_front, with_front, with_instance}
+use Rattle.context_meaning.specs.Fits.{InstanceFits, WaitingFits}
+use Rattle.context_meaning.specs.Turns.{cargo_handled, defaults_in, first_handled, front_handled, front_weight, loaded, settled, stimulated, thing_handled}
+use Rattle.std.proofs.lemmas.List.Elements.{All-head, All-tail}
+use Rattle.context_meaning.proofs.Handling.{with_front_fits}
+use Rattle.context_meaning.proofs.Marks.{stimulated_completed}
+use Rattle.context_meaning.proofs.Resting.{cargo_row, thing_row}
+use Rattle.context_meaning.proofs.Settling.{first_falls, settled_empty, settled_step}
+use Rattle.live_context.specs.Lent.{first_of, rest_of}
+use Rattle.context_steps.specs.Steps.{SettlesAs, begun_with}
+use Rattle.context_steps.proofs.Callbacks.{instance_fits}
 
 -- ---- loads
 
 can_begin : (program : Program) (n : ℕ) (m : Monitor) (c : Context) → Keeps program → slice_get program.monitors n ≡ Some m → ContextFits program c → CanRunIn program (c.begun + 1) m.onload [] (with_instance n (defaults_in program m) c)
-can_begin program n m c keeps there fit = λ i is. record {
-  may = keeps.onload n m c there fit i is;
-  globals = can_globals program (c.begun + 1) (with_instance n (defaults_in program m) c) i (keeps.begun n m c there fit) is;
-}
+can_begin program n m c keeps there fit = λ i is.
+    let fits : InstanceFits program (c.begun + 1) i = instance_fits program (c.begun + 1) (with_instance n (defaults_in program m) c) i (keeps.begun n m c there fit) is in
+    record { may = keeps.onload n m c there fit i is; globals = fits.globals; number = fits.number }
 
 -- `onload` may run where its instance began
 pub can_load : (program : Program) (n : ℕ) (m : Monitor) (c d : Context) (globals locals : List Value) (instance : ℕ) → Keeps program → slice_get program.monitors n ≡ Some m → ContextFits program c → d ≡ with_instance n globals c → globals ≡ defaults_in program m → instance ≡ c.begun + 1 → locals ≡ [] → CanRunIn program instance m.onload locals d
@@ -28,74 +37,81 @@ can_load program n m c d globals locals instance keeps there fit d_is globals_is
     subst (λ (ls : List Value). CanRunIn program instance m.onload ls d) (sym none) third
 
 -- and runs there
-pub load_ran : (program : Program) (n : ℕ) (m : Monitor) (c d r : Context) (globals locals : List Value) (instance : ℕ) → d ≡ with_instance n globals c → globals ≡ defaults_in program m → instance ≡ c.begun + 1 → locals ≡ [] → r ≡ ran program instance m.onload locals d → r ≡ ran program (c.begun + 1) m.onload [] (with_instance n (defaults_in program m) c)
+pub load_ran : (program : Program) (n : ℕ) (m : Monitor) (c d r : Context) (globals locals : List Value) (instance : ℕ) → d ≡ with_instance n globals c → globals ≡ defaults_in program m → instance ≡ c.begun + 1 → locals ≡ [] → r ≡ ran program instance m.onload locals d → r ≡ begun_with program n m c
 load_ran program n m c d r globals locals instance d_is globals_is instance_is none so =
     so
     ∙ ap (λ k. ran program k m.onload locals d) instance_is
     ∙ ap (λ (ls : List Value). ran program (c.begun + 1) m.onload ls d) none
     ∙ ap (ran program (c.begun + 1) m.onload []) (d_is ∙ ap (λ (g : List Value). with_instance n g c) globals_is)
 
+-- ---- marks
+
+-- a mark is charged where there are instances
+pub marked : (program : Program) (e : Value) (b : Bool) (c d : Context) → has_instances c ≡ b → d ≡ cond b (paid 5 c) c → d ≡ stimulated program (stimulus.Completed e) c
+marked program e b c d is so = so ∙ sym (ap (λ x. cond x (paid 5 c) c) is) ∙ sym (stimulated_completed program e c)
+
 -- ---- the front
 
--- one turn more
-pub drained_more : (program : Program) (n : ℕ) (c d : Context) → 0 < n → c.spent ≡ false → d ≡ first_handled program c → drained program (n - 1) d ≡ drained program n c
-drained_more program zero c d lt lives so = absurd (omega arith)
-drained_more program (suc n) c d lt lives so =
-    let less : suc n - 1 ≡ n = omega arith in
-    ap (λ k. drained program k d) less ∙ ap (drained program n) (so ∙ sym (ap (λ b. cond b c (first_handled program c)) lives))
+-- the first of some
+taken_first : (ws : List Waiting) (w : Waiting) → Some w ≡ first_of ws → ws ≡ w ∷ rest_of ws
+taken_first [] w is = absurd (cc)
+taken_first (v ∷ vs) w is = let same : w ≡ v = cc in ap (λ (x : Waiting). x ∷ vs) (sym same)
 
--- nothing is done where the context is spent
-pub drained_spent : (program : Program) (n : ℕ) (c : Context) → c.spent ≡ true → drained program n c ≡ c
-drained_spent program zero c is = refl
-drained_spent program (suc n) c is = ap (λ b. drained program n (cond b c (first_handled program c))) is ∙ drained_spent program n c is
+taken_none : (ws : List Waiting) → None ≡ first_of ws → ws ≡ []
+taken_none [] is = refl
+taken_none (v ∷ vs) is = absurd (cc)
 
-first_empty : (program : Program) (c : Context) → c.front ≡ [] → unless_spent (first_handled program) c ≡ c
-first_empty program c none = ap (λ (vs : List Value). cond c.spent c (front_handled program vs c)) none ∙ by c.spent
-  where
-    by : (b : Bool) → cond b c c ≡ c
-    by true = refl
-    by false = refl
+-- all that waits fits
+front_fits : (program : Program) (c : Context) (w : Waiting) → ContextFits program c → Some w ≡ first_of c.front → All (WaitingFits program) (w ∷ rest_of c.front)
+front_fits program c w fit is = subst (All (WaitingFits program)) (taken_first c.front w is) fit.front
 
--- and where none waits
-pub drained_empty : (program : Program) (n : ℕ) (c : Context) → c.front ≡ [] → drained program n c ≡ c
-drained_empty program zero c none = refl
-drained_empty program (suc n) c none = ap (drained program n) (first_empty program c none) ∙ drained_empty program n c none
+-- the first fits
+pub first_fits : (program : Program) (c : Context) (w : Waiting) → ContextFits program c → Some w ≡ first_of c.front → WaitingFits program w
+first_fits program c w fit is = All-head (WaitingFits program) w (rest_of c.front) (front_fits program c w fit is)
 
--- what was handled, with what it put in front
-pub rowed_fits : (program : Program) (load : Cargo) (c d r : Context) → Keeps program → ContextFits program c → CargoFits program load → d ≡ handled program load c → r ≡ rowed program d → ContextFits program r
-rowed_fits program load c d r keeps fit carried d_is r_is = subst (ContextFits program) (sym r_is) (keeps.rowed d (subst (ContextFits program) (sym d_is) (keeps.handled load c fit carried)))
+-- and so does the context without it
+pub rest_fits : (program : Program) (c d : Context) (w : Waiting) → ContextFits program c → Some w ≡ first_of c.front → d ≡ with_front (rest_of c.front) c → ContextFits program d
+rest_fits program c d w fit is d_is = subst (ContextFits program) (sym d_is) (with_front_fits program (rest_of c.front) c (All-tail (WaitingFits program) w (rest_of c.front) (front_fits program c w fit is)) fit)
 
--- ---- what waits beside the context
+-- the first, taken and handled
+first_as : (program : Program) (c d r : Context) (w : Waiting) → Some w ≡ first_of c.front → d ≡ with_front (rest_of c.front) c → r ≡ thing_handled program w d → r ≡ first_handled program c
+first_as program c d r w is d_is so = so ∙ ap (thing_handled program w) d_is ∙ sym (ap (λ (ws : List Waiting). front_handled program ws c) (taken_first c.front w is))
 
-reverse_push : (vs : List Value) (v : Value) → reverse (vs ++ v ∷ []) ≡ v ∷ reverse vs
-reverse_push vs v = reverse-append vs (v ∷ [])
+some_wait : (c : Context) (w : Waiting) → Some w ≡ first_of c.front → 0 < length c.front
+some_wait c w is = subst (λ (ws : List Waiting). 0 < length ws) (sym (taken_first c.front w is)) (omega arith)
 
--- the first in front is handled
-pub first_as : (program : Program) (e : Value) (c d : Context) (row left old new : List Value) → d ≡ event_handled program e c → row ≡ d.row → left ≡ [] → reverse new ≡ row ++ reverse old → with_front (reverse new) (record d { row = left }) ≡ first_handled program (with_front (e ∷ reverse old) c)
-first_as program e c d row left old new d_is row_is none so =
-    ap (λ (vs : List Value). with_front (reverse new) (record d { row = vs })) none
-    ∙ ap (λ (vs : List Value). with_front vs (record d { row = [] })) (so ∙ ap (λ (vs : List Value). vs ++ reverse old) row_is)
-    ∙ ap (λ (x : Context). rowed program (with_front (reverse old) x)) d_is
-    ∙ sym (ap (rowed program) (event_apart program e (reverse old) c))
+-- it comes to the same in the end
+pub first_same : (program : Program) (c d r : Context) (w : Waiting) → c.row ≡ [] → c.spent ≡ false → Some w ≡ first_of c.front → d ≡ with_front (rest_of c.front) c → r ≡ thing_handled program w d → settled program r ≡ settled program c
+first_same program c d r w row lives is d_is so = ap (settled program) (first_as program c d r w is d_is so) ∙ sym (settled_step program c row lives (some_wait c w is))
 
-event_empty : (program : Program) (e : Value) (c d : Context) → c.front ≡ [] → d ≡ event_handled program e c → d.front ≡ []
-event_empty program e c d none d_is =
-    ap (λ (x : Context). x.front) (d_is ∙ ap (λ (vs : List Value). event_handled program e (with_front vs c)) none ∙ event_apart program e [] c)
+-- with an empty row
+pub first_row : (program : Program) (d r : Context) (w : Waiting) → r ≡ thing_handled program w d → r.row ≡ []
+first_row program d r w so = ap (λ (x : Context). x.row) so ∙ thing_row program w d
 
-pub first_waits : (program : Program) (e : Value) (c d : Context) (row left old new : List Value) → Keeps program → Waits program c (old ++ e ∷ []) → d ≡ event_handled program e c → row ≡ d.row → left ≡ [] → reverse new ≡ row ++ reverse old → Waits program (record d { row = left }) new
-first_waits program e c d row left old new keeps waits d_is row_is none so = record {
-  fits = subst (ContextFits program) (sym (first_as program e c d row left old new d_is row_is none so)) (keeps.first (with_front (e ∷ reverse old) c) (subst (λ (vs : List Value). ContextFits program (with_front vs c)) (reverse_push old e) waits.fits));
-  empty = event_empty program e c d waits.empty d_is;
+-- and less is left
+pub first_less : (program : Program) (c d r : Context) (w : Waiting) → c.row ≡ [] → Some w ≡ first_of c.front → d ≡ with_front (rest_of c.front) c → r ≡ thing_handled program w d → 2 * r.fuel + front_weight r.front < 2 * c.fuel + front_weight c.front
+first_less program c d r w row is d_is so = subst (λ (x : Context). 2 * x.fuel + front_weight x.front < 2 * c.fuel + front_weight c.front) (sym (first_as program c d r w is d_is so)) (first_falls program c row (some_wait c w is))
+
+-- where nothing waits all is settled
+pub none_left : (program : Program) (c d : Context) → None ≡ first_of c.front → d ≡ with_front (rest_of c.front) c → d ≡ settled program c
+none_left program c d is d_is =
+    let none : c.front ≡ [] = taken_none c.front is in
+    d_is ∙ ap (λ (ws : List Waiting). with_front (rest_of ws) c) none ∙ ap (λ (ws : List Waiting). with_front ws c) (sym none) ∙ sym (settled_empty program c none)
+
+-- ---- entries
+
+-- what is handled as it is defined comes to the same
+pub settles_same : (program : Program) (load : Cargo) (c r : Context) → Keeps program → ContextFits program c → CargoFits program load → r ≡ cargo_handled program load c → SettlesAs program load c r
+settles_same program load c r keeps fit is so = record {
+  same = ap (settled program) so;
+  row = ap (λ (x : Context). x.row) so ∙ cargo_row program load c;
+  fits = subst (ContextFits program) (sym so) (keeps.cargo load c fit is);
 }
 
--- one turn more of what waits
-pub drained_pop : (program : Program) (n : ℕ) (e : Value) (c d : Context) (all old new : List Value) → 0 < n → c.spent ≡ false → all ≡ old ++ e ∷ [] → with_front (reverse new) d ≡ first_handled program (with_front (e ∷ reverse old) c) → drained program (n - 1) (with_front (reverse new) d) ≡ drained program n (with_front (reverse all) c)
-drained_pop program n e c d all old new lt lives all_is so =
-    drained_more program n (with_front (e ∷ reverse old) c) (with_front (reverse new) d) lt lives so
-    ∙ ap (λ (vs : List Value). drained program n (with_front vs c)) (sym (ap reverse all_is ∙ reverse_push old e))
+-- an event, and then its mark behind its row
+pub settles_event : (program : Program) (e v : Value) (c d r : Context) → Keeps program → ContextFits program c → CargoFits program (cargo.Event e) → d ≡ stimulated program (stimulus.Event e) c → v ≡ e → r ≡ row_in_front (waiting.Completed v ∷ []) d → SettlesAs program (cargo.Event e) c r
+settles_event program e v c d r keeps fit is d_is v_is so = settles_same program (cargo.Event e) c r keeps fit is (so ∙ ap (λ (x : Value). row_in_front (waiting.Completed x ∷ []) d) v_is ∙ ap (row_in_front (waiting.Completed e ∷ [])) d_is)
 
--- and where none waits
-pub drained_none : (program : Program) (n : ℕ) (c : Context) (all new : List Value) → all ≡ [] → new ≡ [] → with_front (reverse new) c ≡ drained program n (with_front (reverse all) c)
-drained_none program n c all new all_is new_is =
-    ap (λ (vs : List Value). with_front (reverse vs) c) (new_is ∙ sym all_is)
-    ∙ sym (drained_empty program n (with_front (reverse all) c) (ap reverse all_is))
+-- a load
+pub settles_load : (program : Program) (monitor : ℕ) (c d r : Context) → Keeps program → ContextFits program c → CargoFits program (cargo.Load monitor) → d ≡ loaded program monitor c → r ≡ row_in_front [] d → SettlesAs program (cargo.Load monitor) c r
+settles_load program monitor c d r keeps fit is d_is so = settles_same program (cargo.Load monitor) c r keeps fit is (so ∙ ap (row_in_front []) d_is)

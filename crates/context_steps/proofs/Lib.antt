@@ -1,10 +1,8 @@
 mod Common
-pub mod Apart
-pub mod Births
 pub mod Bounds
 pub mod Callbacks
 pub mod Fronts
+pub mod Handled
 pub mod Keeping
-pub mod Places
 pub mod Rows
 pub mod Runs

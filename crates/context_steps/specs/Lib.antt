@@ -1,4 +1,3 @@
 pub mod Common
 pub mod Calls
-pub mod Fronts
 pub mod Steps

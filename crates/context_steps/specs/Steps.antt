@@ -1,77 +1,96 @@
 -- What runs of bodies ask of the context that they run in, and what they come to.
-use Rattle.context_steps.specs.Common.{ℕ, List, [], Some, slice_get, Value, Program, Site, TemplateShape, Context, Listener, template_of, fits, body_number, callback_locals, ContextFits}
-use Rattle.std.specs.Prelude.{◌≡◌, ◌-◌, ◌+◌, ◌<◌, ◌^◌, Bool, true, length, slice_set}
-use Rattle.std.specs.List.{find, Contains}
-use Rattle.epl_values.specs.declared.value.Value.{out-Value}
+use Rattle.context_steps.specs.Common.{ℕ, List, [], Some, slice_get, Value, Program, Site, TemplateShape, Context, Listener, template_of, completes, body_number, callback_locals, ContextFits}
+use Rattle.std.specs.Prelude.{◌≡◌, ◌-◌, ◌+◌, ◌<◌, ◌≤◌, ◌^◌, Bool, true, Option, None}
+use Rattle.std.specs.List.{Contains}
 use Rattle.typed_program.specs.declared.program.Monitor.{Monitor}
-use Rattle.value_shapes.specs.Fits.{IsEvent}
 use Rattle.typed_runs.specs.Bodies.{GlobalsFit}
 use Rattle.action_host.specs.declared.host.End.{End}
 use Rattle.action_host.specs.Scenes.{Scene}
 use Rattle.action_host.specs.Told.{Told}
 use Rattle.record_book.specs.declared.cargo.Cargo.{Cargo}
 use Rattle.context_meaning.specs.declared.context.Instance.{Instance}
-use Rattle.context_meaning.specs.Contexts.{is_instance, instance_of, put_globals, with_instance}
-use Rattle.context_meaning.specs.Ends.{act_in, taken, ondie_of}
-use Rattle.context_meaning.specs.Turns.{stepped_born, defaults_in, handled, rowed, first_handled}
-use Rattle.context_meaning.specs.Fits.{MayRun}
+use Rattle.context_meaning.specs.declared.context.Stimulus.{Stimulus}
+use Rattle.context_meaning.specs.declared.context.Waiting.{Waiting}
+use Rattle.context_meaning.specs.Contexts.{instance_of, with_instance}
+use Rattle.context_meaning.specs.Ends.{act_in, with_act, ran}
+use Rattle.context_meaning.specs.Listening.{event_of}
+use Rattle.context_meaning.specs.Turns.{stepped_born, defaults_in, thing_handled, cargo_handled, settled}
+use Rattle.context_meaning.specs.Fits.{MayRun, StimulusFits, WaitingFits}
 use Rattle.record_book.specs.Fits.{CargoFits}
+use Rattle.context_steps.specs.declared.ends.Ran.{Ran}
 
--- ---- instances by number
-
--- the first instance with a number stands at this place
-pub record FoundAt (number : ℕ) (instances : List Instance) (at : ℕ) : Type 0 where
-  pub found : Instance
-  pub is : find (is_instance number) instances ≡ Some found
-  pub here : slice_get instances at ≡ Some found
-  pub below : at < length instances
-  pub number_is : found.number ≡ number
-  pub puts : (globals : List Value) → put_globals number globals instances ≡ slice_set instances at (record found { globals = globals })
+-- ---- what may run
 
 -- an instance with this number and monitor
 abbrev pub numbered : ℕ → ℕ → Instance
 numbered number monitor = record { number = number; monitor = monitor; globals = [] }
 
+-- the `ondie` of a monitor that may be there
+abbrev pub ondie_in : Option Monitor → Option ℕ
+ondie_in None = None
+ondie_in (Some m) = m.ondie
+
+abbrev pub ondie_of : Program → ℕ → Option ℕ
+ondie_of program monitor = ondie_in (slice_get program.monitors monitor)
+
 -- a body that may run in an instance with these locals, over the globals that it has
-pub record CanRun (program : Program) (body : ℕ) (locals : List Value) (i : Instance) : Type 0 where
+pub record CanRun (program : Program) (body : ℕ) (locals : List Value) (begun : ℕ) (i : Instance) : Type 0 where
   pub may : MayRun program body locals i
   pub globals : GlobalsFit program i.monitor i.globals
+  pub number : i.number ≤ begun
 
 -- a body may run in the instance with this number, where it is there
 abbrev pub CanRunIn : Program → ℕ → ℕ → List Value → Context → Type 0
-CanRunIn program number body locals c = (i : Instance) → instance_of number c ≡ Some i → CanRun program body locals i
+CanRunIn program number body locals c = (i : Instance) → instance_of number c ≡ Some i → CanRun program body locals c.begun i
 
 -- the instance with this number, where it is there, is one of this monitor, and its globals have their shapes
 abbrev pub Stands : Program → ℕ → ℕ → Context → Type 0
-Stands program number monitor c = (i : Instance) → instance_of number c ≡ Some i → (i.monitor ≡ monitor) × GlobalsFit program monitor i.globals
+Stands program number monitor c = (i : Instance) → instance_of number c ≡ Some i → (i.monitor ≡ monitor) × GlobalsFit program monitor i.globals × (i.number ≤ c.begun)
 
 -- less fuel than the greatest amount
 abbrev pub IsSmall : Context → Type 0
 IsSmall c = c.fuel < 2 ^ 64 - 1
 
+-- ---- what runs come to
+
 -- what a run of a body in the instance with this number came to
-pub record Came (program : Program) (ending : Bool) (number body : ℕ) (locals : List Value) (old new : Context) (end : End) : Type 0 where
+pub record Came (program : Program) (ending : Bool) (number body : ℕ) (locals : List Value) (old new : Context) (monitor : ℕ) (end : End) : Type 0 where
   pub found : Instance
   pub is : instance_of number old ≡ Some found
   pub number_is : found.number ≡ number
+  pub monitor_is : found.monitor ≡ monitor
   pub end_is : end ≡ (act_in program ending body locals found old).end
-  pub takes : new ≡ taken number ending (act_in program ending body locals found old) old
+  pub takes : new ≡ with_act number ending (act_in program ending body locals found old) old
   pub small : new.fuel < 2 ^ 64 - 1
-  pub stands : Stands program number found.monitor new
+  pub stands : Stands program number monitor new
+
+-- nothing ran where no instance has this number
+abbrev pub CameIn : Program → Bool → ℕ → ℕ → List Value → Context → Context → Option Ran → Type 0
+CameIn program ending number body locals old new None = (instance_of number old ≡ None) × (new ≡ old)
+CameIn program ending number body locals old new (Some r) = Came program ending number body locals old new r.monitor r.end
 
 -- what a host tells before a run
 abbrev pub told_first : Scene → Told
 told_first scene = record { scene = scene; taken = []; drawn = [] }
 
+-- an instance of a monitor begins, and its `onload` runs
+abbrev pub begun_with : Program → ℕ → Monitor → Context → Context
+begun_with program n m c = ran program (c.begun + 1) m.onload [] (with_instance n (defaults_in program m) c)
+
+-- what is left fits, has an empty row, and comes to what the handling of an entry comes to
+pub record SettlesAs (program : Program) (load : Cargo) (old new : Context) : Type 0 where
+  pub same : settled program new ≡ settled program (cargo_handled program load old)
+  pub row : new.row ≡ []
+  pub fits : ContextFits program new
+
 -- ---- what naive evaluation keeps
 
 -- what naive evaluation of a typed program keeps of its contexts, and which bodies may run in them
 pub record Keeps (program : Program) : Type 0 where
-  pub ondie : (i : Instance) (body : ℕ) → ondie_of program (slice_get program.monitors i.monitor) ≡ Some body → MayRun program body [] i
+  pub ondie : (i : Instance) (body : ℕ) → ondie_of program i.monitor ≡ Some body → MayRun program body [] i
   pub begun : (n : ℕ) (m : Monitor) (c : Context) → slice_get program.monitors n ≡ Some m → ContextFits program c → ContextFits program (with_instance n (defaults_in program m) c)
   pub onload : (n : ℕ) (m : Monitor) (c : Context) → slice_get program.monitors n ≡ Some m → ContextFits program c → (i : Instance) → instance_of (c.begun + 1) (with_instance n (defaults_in program m) c) ≡ Some i → MayRun program m.onload [] i
-  pub callback : (l : Listener) (site : Site) (t : TemplateShape) (e : Value) (c : Context) → ContextFits program c → Contains c.listeners l → slice_get program.sites l.site ≡ Some site → template_of site.term ≡ Some t → fits t e ≡ true → IsEvent program.types e (out-Value e) → (i : Instance) → instance_of l.instance c ≡ Some i → MayRun program (body_number program l.site) (callback_locals program.types t site l.captured e) i
-  pub stepped : (e : Value) (birth : ℕ) (c : Context) → ContextFits program c → IsEvent program.types e (out-Value e) → ContextFits program (stepped_born program e birth c)
-  pub handled : (load : Cargo) (c : Context) → ContextFits program c → CargoFits program load → ContextFits program (handled program load c)
-  pub rowed : (c : Context) → ContextFits program c → ContextFits program (rowed program c)
-  pub first : (c : Context) → ContextFits program c → ContextFits program (first_handled program c)
+  pub callback : (l : Listener) (site : Site) (t : TemplateShape) (s : Stimulus) (c : Context) → ContextFits program c → Contains c.listeners l → slice_get program.sites l.site ≡ Some site → template_of site.term ≡ Some t → completes t s ≡ true → StimulusFits program s → (i : Instance) → instance_of l.instance c ≡ Some i → MayRun program (body_number program l.site) (callback_locals program.types t site l.captured (event_of s)) i
+  pub stepped : (s : Stimulus) (birth : ℕ) (c : Context) → ContextFits program c → StimulusFits program s → ContextFits program (stepped_born program s birth c)
+  pub thing : (w : Waiting) (c : Context) → ContextFits program c → WaitingFits program w → ContextFits program (thing_handled program w c)
+  pub cargo : (load : Cargo) (c : Context) → ContextFits program c → CargoFits program load → ContextFits program (cargo_handled program load c)

@@ -1,48 +1,41 @@
-ghost use Rattle.std.specs.Prelude.{◌≡◌, ◌<◌, ◌-◌, [], slice_get, not, filter, true, false, IfOk, OnOk, MatchOption, None};
-ghost use Rattle.std.specs.List.{find, list_any, position};
+ghost use Rattle.std.specs.Prelude.{◌≡◌, [], true, false, IfOk, OnOk};
 ghost use Rattle.plain_host.specs.Told.{told_of};
 ghost use Rattle.typed_program.specs.Typed.{Typed};
-ghost use Rattle.context_meaning.specs.Contexts.{scene_of, is_instance, instance_of, is_its, without_instance};
-ghost use Rattle.context_meaning.specs.Ends.{run_in, fault_line, last_run, ondie_of, dying, ended, idle, finished, ran};
-ghost use Rattle.context_steps.specs.Steps.{FoundAt, numbered, CanRunIn, Stands, IsSmall, Came, Keeps, told_first};
+ghost use Rattle.context_meaning.specs.Contexts.{scene_of};
+ghost use Rattle.context_meaning.specs.Ends.{run_in, fault_line, last_run, dying, ended, idle, finished, ran};
+ghost use Rattle.context_steps.specs.Steps.{numbered, ondie_of, CanRunIn, Stands, IsSmall, CameIn, Keeps, told_first};
 
-use crate::effects::{apply_all, quit_all};
+use crate::around::Around;
+use crate::effects::apply_all;
 use action_host::{End, Fault};
 use body_runs::BodyRunner;
-use context_meaning::{Context, Instance, Listener};
 use epl_values::{List, Values};
+use live_context::{Lent, LiveContext};
 use plain_host::{Entries, PlainHost};
 use record_book::Line;
 use std::alloc::{AllocError, Global};
-use std::mem;
 use typed_program::Program;
 
-fn first_at(instances: &[Instance], number: u64) -> Option<usize>
-    ensures { result ≡ position (is_instance number) instances.now }
-{
-    instances
-        .iter()
-        .position(|instance| instance.number == number)
-}
+// ---- runs
 
-/// The place of the instance with a number.
-fn place_of(instances: &[Instance], number: u64) -> Option<usize>
-    ensures { MatchOption result (find (is_instance number) instances.now ≡ None) (FoundAt number instances.now) }
-{
-    first_at(instances, number)
+/// What a run in an instance came to: the monitor of the instance, and how the run ended.
+#[derive(Drop)]
+pub struct Ran {
+    pub monitor: u16,
+    pub end: End,
 }
 
 /// The host of a run in a context.
-fn host_of(alloc: Global, context: &Context, ending: bool) -> PlainHost
+fn host_of(alloc: Global, context: &LiveContext, ending: bool) -> PlainHost
     requires { IsSmall context.now }
     ensures { told_of result ≡ told_first (scene_of ending context.now) }
 {
     PlainHost {
         alloc,
-        slot: context.slot,
-        slots: context.slots,
-        fuel: context.fuel,
-        births: context.births,
+        slot: context.slot(),
+        slots: context.slots(),
+        fuel: context.fuel(),
+        births: context.births(),
         made: 0,
         subscriptions: Entries::new(alloc),
         held: List::new(alloc),
@@ -51,63 +44,62 @@ fn host_of(alloc: Global, context: &Context, ending: bool) -> PlainHost
     }
 }
 
-/// Runs a body over the globals of the instance at a place, and puts what it comes to into the context.
-fn run_at<R: BodyRunner>(
-    runner: &R,
-    alloc: Global,
-    program: &Program,
-    context: &mut Context,
-    at: usize,
+/// Runs a body over the globals of the instance with this number, where it is there, and puts what it comes to into the context.
+fn run_in<R: BodyRunner>(
+    around: &Around<'_, R>,
+    context: &mut LiveContext,
     number: u64,
     ending: bool,
     body: u16,
     locals: Values,
-) -> Result<End, AllocError>
-    requires serves { R.serves runner.now program.now }
-    requires typed { Typed program.now }
-    requires place { FoundAt number context.old.instances at }
-    requires runs { CanRunIn program.now number body locals context.old }
+) -> Result<Option<Ran>, AllocError>
+    requires serves { R.serves around.now.runner.now around.now.program.now }
+    requires typed { Typed around.now.program.now }
+    requires runs { CanRunIn around.now.program.now number body locals context.old }
     requires fuel { IsSmall context.old }
-    ensures { IfOk result (Came program.now ending number body locals context.old context.new) }
+    ensures { IfOk result (CameIn around.now.program.now ending number body locals context.old context.new) }
 {
-    let empty = Instance {
-        number: 0,
-        monitor: 0,
-        globals: List::new(alloc),
+    let Some(lent) = context.lend(number) else {
+        return Ok(None);
     };
-    let mut instance = context.instances.set(at, empty);
-    let mut host = host_of(alloc, context, ending);
-    let end = runner.run_action(
-        alloc,
-        program,
+    let Lent {
+        monitor,
+        mut globals,
+    } = lent;
+    let mut host = host_of(around.alloc, context, ending);
+    let end = around.runner.run_action(
+        around.alloc,
+        around.program,
         body,
-        &mut instance.globals,
+        &mut globals,
         locals,
         &mut host,
     )?;
-    let _empty = context.instances.set(at, instance);
+    context.put_back(number, globals);
     let PlainHost { fuel, taken, .. } = host;
-    context.fuel = fuel;
-    apply_all(alloc, context, number, ending, taken)?;
-    Ok(end)
+    context.set_fuel(fuel);
+    apply_all(context, number, ending, taken)?;
+    Ok(Some(Ran { monitor, end }))
 }
+
+// ---- how an instance ends
 
 /// Prints the line of a fault.
 fn fault_line(
     program: &Program,
-    context: &mut Context,
+    context: &mut LiveContext,
     monitor: u16,
     fault: Fault,
 ) -> Result<(), AllocError>
     ensures { OnOk result (context.new ≡ fault_line program.now (numbered 0 monitor) fault context.old) }
 {
-    context.lines.push(Line::Fault(monitor, fault))
+    context.print(Line::Fault(monitor, fault))
 }
 
 /// How a run of `ondie` ends.
 fn last_run(
     program: &Program,
-    context: &mut Context,
+    context: &mut LiveContext,
     monitor: u16,
     end: End,
 ) -> Result<(), AllocError>
@@ -120,7 +112,7 @@ fn last_run(
         End::Died => Ok(()),
         End::Failed(fault) => fault_line(program, context, monitor, fault),
         End::Spent => {
-            context.spent = true;
+            context.spend();
             Ok(())
         }
     }
@@ -128,7 +120,7 @@ fn last_run(
 
 /// The body `ondie` of a monitor.
 fn ondie_of(program: &Program, monitor: u16) -> Option<u16>
-    ensures { result ≡ ondie_of program.now (slice_get program.now.monitors monitor) }
+    ensures { result ≡ ondie_of program.now monitor }
 {
     match program.monitors.as_slice().get(monitor as usize) {
         None => None,
@@ -138,171 +130,132 @@ fn ondie_of(program: &Program, monitor: u16) -> Option<u16>
 
 /// Runs `ondie` in the instance with this number, where it is there.
 fn run_ondie<R: BodyRunner>(
-    runner: &R,
-    alloc: Global,
-    program: &Program,
-    context: &mut Context,
+    around: &Around<'_, R>,
+    context: &mut LiveContext,
     number: u64,
     body: u16,
 ) -> Result<(), AllocError>
-    requires serves { R.serves runner.now program.now }
-    requires typed { Typed program.now }
-    requires runs { CanRunIn program.now number body [] context.old }
+    requires serves { R.serves around.now.runner.now around.now.program.now }
+    requires typed { Typed around.now.program.now }
+    requires runs { CanRunIn around.now.program.now number body [] context.old }
     requires fuel { IsSmall context.old }
-    ensures means { OnOk result (context.new ≡ run_in program.now (last_run program.now) true body [] (instance_of number context.old) context.old) }
+    ensures means { OnOk result (context.new ≡ run_in around.now.program.now (last_run around.now.program.now) true body [] number context.old) }
     ensures small { OnOk result (IsSmall context.new) }
 {
-    let Some(at) = place_of(context.instances.as_slice(), number) else {
-        return Ok(());
-    };
-    let monitor = context.instances.get(at).monitor;
-    let locals = List::new(alloc);
-    let end = run_at(
-        runner, alloc, program, context, at, number, true, body, locals,
-    )?;
-    last_run(program, context, monitor, end)
+    let locals = List::new(around.alloc);
+    match run_in(around, context, number, true, body, locals)? {
+        None => Ok(()),
+        Some(ran) => last_run(around.program, context, ran.monitor, ran.end),
+    }
 }
 
 /// The `ondie` of an instance runs, where its monitor has one.
 fn die<R: BodyRunner>(
-    runner: &R,
-    alloc: Global,
-    program: &Program,
-    context: &mut Context,
+    around: &Around<'_, R>,
+    context: &mut LiveContext,
     number: u64,
     monitor: u16,
 ) -> Result<(), AllocError>
-    requires serves { R.serves runner.now program.now }
-    requires typed { Typed program.now }
-    requires keeps { Keeps program.now }
-    requires stands { Stands program.now number monitor context.old }
+    requires serves { R.serves around.now.runner.now around.now.program.now }
+    requires typed { Typed around.now.program.now }
+    requires keeps { Keeps around.now.program.now }
+    requires stands { Stands around.now.program.now number monitor context.old }
     requires fuel { IsSmall context.old }
-    ensures means { OnOk result (context.new ≡ dying program.now number (ondie_of program.now (slice_get program.now.monitors monitor)) context.old) }
+    ensures means { OnOk result (context.new ≡ dying around.now.program.now (numbered number monitor) context.old) }
     ensures small { OnOk result (IsSmall context.new) }
 {
-    match ondie_of(program, monitor) {
+    match ondie_of(around.program, monitor) {
         None => Ok(()),
-        Some(body) => run_ondie(runner, alloc, program, context, number, body),
+        Some(body) => run_ondie(around, context, number, body),
     }
-}
-
-fn others(number: u64, mut instances: Vec<Instance>) -> Vec<Instance>
-    ensures { result.items ≡ filter (λ i. not (is_instance number i)) instances.items }
-{
-    instances.retain(|instance| instance.number != number);
-    instances
-}
-
-/// The instance with this number is gone.
-fn remove(alloc: Global, context: &mut Context, number: u64)
-    ensures { context.new ≡ without_instance number context.old }
-{
-    let instances = mem::replace(&mut context.instances, List::new(alloc));
-    context.instances = List::from_vec(others(number, instances.into_vec()));
 }
 
 /// An instance ends.
 fn end_instance<R: BodyRunner>(
-    runner: &R,
-    alloc: Global,
-    program: &Program,
-    context: &mut Context,
+    around: &Around<'_, R>,
+    context: &mut LiveContext,
     number: u64,
     monitor: u16,
 ) -> Result<(), AllocError>
-    requires serves { R.serves runner.now program.now }
-    requires typed { Typed program.now }
-    requires keeps { Keeps program.now }
-    requires stands { Stands program.now number monitor context.old }
+    requires serves { R.serves around.now.runner.now around.now.program.now }
+    requires typed { Typed around.now.program.now }
+    requires keeps { Keeps around.now.program.now }
+    requires stands { Stands around.now.program.now number monitor context.old }
     requires fuel { IsSmall context.old }
-    ensures means { OnOk result (context.new ≡ ended program.now (numbered number monitor) context.old) }
+    ensures means { OnOk result (context.new ≡ ended around.now.program.now (numbered number monitor) context.old) }
     ensures small { OnOk result (IsSmall context.new) }
 {
-    quit_all(alloc, context, number);
-    die(runner, alloc, program, context, number, monitor)?;
-    if !context.spent {
-        remove(alloc, context, number);
+    context.quit_all(number);
+    die(around, context, number, monitor)?;
+    if !context.is_spent() {
+        context.remove(number);
     }
     Ok(())
 }
 
-fn is_busy(instance: u64, listeners: &[Listener]) -> bool
-    ensures { result ≡ list_any (is_its instance) listeners.now }
-{
-    listeners
-        .iter()
-        .any(|listener| listener.instance == instance)
-}
-
 /// An instance without a live listener ends.
 fn end_if_idle<R: BodyRunner>(
-    runner: &R,
-    alloc: Global,
-    program: &Program,
-    context: &mut Context,
+    around: &Around<'_, R>,
+    context: &mut LiveContext,
     number: u64,
     monitor: u16,
 ) -> Result<(), AllocError>
-    requires serves { R.serves runner.now program.now }
-    requires typed { Typed program.now }
-    requires keeps { Keeps program.now }
-    requires stands { Stands program.now number monitor context.old }
+    requires serves { R.serves around.now.runner.now around.now.program.now }
+    requires typed { Typed around.now.program.now }
+    requires keeps { Keeps around.now.program.now }
+    requires stands { Stands around.now.program.now number monitor context.old }
     requires fuel { IsSmall context.old }
-    ensures means { OnOk result (context.new ≡ idle program.now (numbered number monitor) context.old) }
+    ensures means { OnOk result (context.new ≡ idle around.now.program.now (numbered number monitor) context.old) }
     ensures small { OnOk result (IsSmall context.new) }
 {
-    if is_busy(number, context.listeners.as_slice()) {
+    if context.is_busy(number) {
         return Ok(());
     }
-    end_instance(runner, alloc, program, context, number, monitor)
+    end_instance(around, context, number, monitor)
 }
 
 /// A fault prints its line, and ends its instance.
 fn end_by_fault<R: BodyRunner>(
-    runner: &R,
-    alloc: Global,
-    program: &Program,
-    context: &mut Context,
+    around: &Around<'_, R>,
+    context: &mut LiveContext,
     number: u64,
     monitor: u16,
     fault: Fault,
 ) -> Result<(), AllocError>
-    requires serves { R.serves runner.now program.now }
-    requires typed { Typed program.now }
-    requires keeps { Keeps program.now }
-    requires stands { Stands program.now number monitor context.old }
+    requires serves { R.serves around.now.runner.now around.now.program.now }
+    requires typed { Typed around.now.program.now }
+    requires keeps { Keeps around.now.program.now }
+    requires stands { Stands around.now.program.now number monitor context.old }
     requires fuel { IsSmall context.old }
-    ensures means { OnOk result (context.new ≡ ended program.now (numbered number monitor) (fault_line program.now (numbered number monitor) fault context.old)) }
+    ensures means { OnOk result (context.new ≡ ended around.now.program.now (numbered number monitor) (fault_line around.now.program.now (numbered number monitor) fault context.old)) }
     ensures small { OnOk result (IsSmall context.new) }
 {
-    fault_line(program, context, monitor, fault)?;
-    end_instance(runner, alloc, program, context, number, monitor)
+    fault_line(around.program, context, monitor, fault)?;
+    end_instance(around, context, number, monitor)
 }
 
 /// How a run ends.
 fn finish<R: BodyRunner>(
-    runner: &R,
-    alloc: Global,
-    program: &Program,
-    context: &mut Context,
+    around: &Around<'_, R>,
+    context: &mut LiveContext,
     number: u64,
     monitor: u16,
     end: End,
 ) -> Result<(), AllocError>
-    requires serves { R.serves runner.now program.now }
-    requires typed { Typed program.now }
-    requires keeps { Keeps program.now }
-    requires stands { Stands program.now number monitor context.old }
+    requires serves { R.serves around.now.runner.now around.now.program.now }
+    requires typed { Typed around.now.program.now }
+    requires keeps { Keeps around.now.program.now }
+    requires stands { Stands around.now.program.now number monitor context.old }
     requires fuel { IsSmall context.old }
-    ensures means { OnOk result (context.new ≡ finished program.now (numbered number monitor) end context.old) }
+    ensures means { OnOk result (context.new ≡ finished around.now.program.now (numbered number monitor) end context.old) }
     ensures small { OnOk result (IsSmall context.new) }
 {
     match end {
-        End::Done(_value) => end_if_idle(runner, alloc, program, context, number, monitor),
-        End::Died => end_instance(runner, alloc, program, context, number, monitor),
-        End::Failed(fault) => end_by_fault(runner, alloc, program, context, number, monitor, fault),
+        End::Done(_value) => end_if_idle(around, context, number, monitor),
+        End::Died => end_instance(around, context, number, monitor),
+        End::Failed(fault) => end_by_fault(around, context, number, monitor, fault),
         End::Spent => {
-            context.spent = true;
+            context.spend();
             Ok(())
         }
     }
@@ -310,28 +263,22 @@ fn finish<R: BodyRunner>(
 
 /// Runs a body in the instance with this number, where it is there, and then ends the instance where the run ends it.
 pub fn run<R: BodyRunner>(
-    runner: &R,
-    alloc: Global,
-    program: &Program,
-    context: &mut Context,
+    around: &Around<'_, R>,
+    context: &mut LiveContext,
     number: u64,
     body: u16,
     locals: Values,
 ) -> Result<(), AllocError>
-    requires serves { R.serves runner.now program.now }
-    requires typed { Typed program.now }
-    requires keeps { Keeps program.now }
-    requires runs { CanRunIn program.now number body locals context.old }
+    requires serves { R.serves around.now.runner.now around.now.program.now }
+    requires typed { Typed around.now.program.now }
+    requires keeps { Keeps around.now.program.now }
+    requires runs { CanRunIn around.now.program.now number body locals context.old }
     requires fuel { IsSmall context.old }
-    ensures means { OnOk result (context.new ≡ ran program.now number body locals context.old) }
+    ensures means { OnOk result (context.new ≡ ran around.now.program.now number body locals context.old) }
     ensures small { OnOk result (IsSmall context.new) }
 {
-    let Some(at) = place_of(context.instances.as_slice(), number) else {
-        return Ok(());
-    };
-    let monitor = context.instances.get(at).monitor;
-    let end = run_at(
-        runner, alloc, program, context, at, number, false, body, locals,
-    )?;
-    finish(runner, alloc, program, context, number, monitor, end)
+    match run_in(around, context, number, false, body, locals)? {
+        None => Ok(()),
+        Some(ran) => finish(around, context, number, ran.monitor, ran.end),
+    }
 }

@@ -1,6 +1,7 @@
 //! Contexts handle entries as naive evaluation says.
 #![tactic(auto)]
 
+mod around;
 mod effects;
 mod ends;
 mod handling;

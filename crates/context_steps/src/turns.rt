@@ -1,22 +1,25 @@
-ghost use Rattle.std.specs.Prelude.{◌≡◌, ◌==◌, ◌<◌, ◌≤◌, ◌+◌, ◌-◌, ◌++◌, length, map, slice_get, nat_le, IfOk, OnOk};
+ghost use Rattle.std.specs.Prelude.{◌≡◌, ◌==◌, ◌≤◌, ◌+◌, ◌++◌, length, slice_get, nat_le, IfOk, OnOk};
 ghost use Rattle.std.specs.Option.{option_copied};
-ghost use Rattle.std.specs.List.{find};
 ghost use Rattle.epl_values.specs.declared.value.Value.{out-Value};
 ghost use Rattle.typed_program.specs.declared.term.Term.{out-Term};
 ghost use Rattle.typed_program.specs.Typed.{Typed};
 ghost use Rattle.value_shapes.specs.Fits.{IsEvent};
-ghost use Rattle.context_meaning.specs.Turns.{type_in, is_ordinary, is_plain, plain_in, template_of, fits, binds_at, bound_from, callback_locals, is_born, stepped_born, turn, births_in};
-ghost use Rattle.context_meaning.specs.Fits.{Ascend, ContextFits};
-ghost use Rattle.context_meaning.specs.Contexts.{charged, unless_spent};
+ghost use Rattle.context_meaning.specs.declared.context.Stimulus.TheVariants as stimulus;
+ghost use Rattle.context_meaning.specs.Listening.{type_in, is_ordinary, is_plain, plain_in, template_of, completes, binds_at, bound_from, callback_locals};
+ghost use Rattle.context_meaning.specs.Turns.{stepped_born, turn};
+ghost use Rattle.context_meaning.specs.Fits.{ContextFits};
+ghost use Rattle.context_meaning.specs.Contexts.{behind_charge, births_in, listener_of, paid, unless_spent};
 ghost use Rattle.context_meaning.specs.Ends.{ran};
 ghost use Rattle.context_steps.specs.Steps.{CanRunIn, IsSmall, Keeps};
-ghost use Rattle.context_steps.specs.Calls.{count_below, bound_value, call_at, call_tested, call_stepped, call_found, paid};
+ghost use Rattle.context_steps.specs.Calls.{bound_value, call_at, call_tested, call_stepped, call_found};
 
+use crate::around::Around;
 use crate::ends::run;
 use body_runs::BodyRunner;
-use context_meaning::{Context, Listener};
+use context_meaning::Listener;
 use epl_tree::Mode;
 use epl_values::{EventShapes, List, Value, Values, copy};
+use live_context::LiveContext;
 use std::alloc::{AllocError, Global};
 use typed_program::{Local, Program, Site, TemplateShape, Term};
 use value_rules::default_of;
@@ -32,8 +35,9 @@ fn type_of(value: &Value) -> Option<u16>
     }
 }
 
-fn fits(template: &TemplateShape, event: &Value) -> bool
-    ensures { result ≡ fits template.now event.now }
+/// An ordinary template is completed by an event of its type.
+fn completes(template: &TemplateShape, event: &Value) -> bool
+    ensures { result ≡ completes template.now (stimulus.Event event.now) }
 {
     match type_of(event) {
         None => false,
@@ -179,7 +183,7 @@ fn body_number(program: &Program, site: u16) -> Result<u16, AllocError>
     }
 }
 
-/// The callback of a listener whose template an event fits.
+/// The callback of a listener whose template an event completes.
 fn call_for(
     alloc: Global,
     program: &Program,
@@ -219,7 +223,7 @@ fn call_tested(
     match template_of(&site.term) {
         None => Ok(None),
         Some(template) => {
-            if !fits(template, event) {
+            if !completes(template, event) {
                 return Ok(None);
             }
             Ok(Some(call_for(alloc, program, template, site, listener, event)?))
@@ -242,84 +246,46 @@ fn call_at(
     }
 }
 
-/// How many listeners were born before this birth.
-fn count_below(listeners: &[Listener], birth: u64) -> usize
-    requires { Ascend (map (λ l. l.birth) listeners.now) }
-    ensures { result ≡ count_below birth listeners.now }
-{
-    listeners.partition_point(|listener| listener.birth < birth)
-}
-
-fn listener_at(listeners: &[Listener], at: usize) -> Option<&Listener>
-    ensures { option_copied result ≡ slice_get listeners.now at }
-{
-    listeners.get(at)
-}
-
-/// The listener of a birth.
-fn listener_of(listeners: &[Listener], birth: u64) -> Option<&Listener>
-    requires { Ascend (map (λ l. l.birth) listeners.now) }
-    ensures { option_copied result ≡ find (λ l. l.birth == birth) listeners.now }
-{
-    match listener_at(listeners, count_below(listeners, birth)) {
-        None => None,
-        Some(listener) => {
-            if listener.birth == birth {
-                Some(listener)
-            } else {
-                None
-            }
-        }
-    }
-}
-
 /// The callback that an event lets run at the listener of a birth, where it is live.
 fn call_of(
     alloc: Global,
     program: &Program,
-    context: &Context,
+    context: &LiveContext,
     birth: u64,
     event: &Value,
 ) -> Result<Option<Call>, AllocError>
-    requires { ContextFits program.now context.now }
-    ensures { IfOk result (λ call. call ≡ call_found program.now event.now (find (is_born program.now birth) context.now.listeners)) }
+    ensures { IfOk result (λ call. call ≡ call_found program.now event.now (listener_of birth context.now)) }
 {
-    match listener_of(context.listeners.as_slice(), birth) {
+    match context.listener(birth) {
         None => Ok(None),
         Some(listener) => call_at(alloc, program, listener, event),
     }
 }
 
-/// Takes fuel; where there is less, the context is spent.
-pub fn pay(context: &mut Context, amount: u64) -> bool
-    ensures context { context.new ≡ paid amount context.old }
+// ---- turns
+
+/// A charge; where there is less fuel, the context is spent.
+pub fn charge(context: &mut LiveContext, amount: u64) -> bool
+    requires { IsSmall context.old }
+    ensures after { context.new ≡ paid amount context.old }
     ensures answer { result ≡ nat_le amount context.old.fuel }
-    ensures instances { context.new.instances ≡ context.old.instances }
-    ensures less { context.new.fuel ≤ context.old.fuel }
+    ensures small { IsSmall context.new }
 {
-    if amount <= context.fuel {
-        context.fuel -= amount;
-        true
-    } else {
-        context.spent = true;
-        false
-    }
+    context.pay(amount)
 }
 
 /// A callback runs, which is charged.
 fn call_back<R: BodyRunner>(
-    runner: &R,
-    alloc: Global,
-    program: &Program,
-    context: &mut Context,
+    around: &Around<'_, R>,
+    context: &mut LiveContext,
     call: Call,
 ) -> Result<(), AllocError>
-    requires serves { R.serves runner.now program.now }
-    requires typed { Typed program.now }
-    requires keeps { Keeps program.now }
-    requires runs { CanRunIn program.now call.instance call.body call.locals context.old }
+    requires serves { R.serves around.now.runner.now around.now.program.now }
+    requires typed { Typed around.now.program.now }
+    requires keeps { Keeps around.now.program.now }
+    requires runs { CanRunIn around.now.program.now call.instance call.body call.locals context.old }
     requires fuel { IsSmall context.old }
-    ensures means { OnOk result (context.new ≡ charged 1 (ran program.now call.instance call.body call.locals) context.old) }
+    ensures means { OnOk result (context.new ≡ behind_charge 1 (ran around.now.program.now call.instance call.body call.locals) context.old) }
     ensures small { OnOk result (IsSmall context.new) }
 {
     let Call {
@@ -327,112 +293,94 @@ fn call_back<R: BodyRunner>(
         body,
         locals,
     } = call;
-    if !pay(context, 1) {
+    if !charge(context, 1) {
         return Ok(());
     }
-    run(runner, alloc, program, context, instance, body, locals)
+    run(around, context, instance, body, locals)
 }
 
 /// The listener of a birth is stepped, where it is live.
 fn step<R: BodyRunner>(
-    runner: &R,
-    alloc: Global,
-    program: &Program,
-    context: &mut Context,
+    around: &Around<'_, R>,
+    context: &mut LiveContext,
     event: &Value,
     birth: u64,
 ) -> Result<(), AllocError>
-    requires serves { R.serves runner.now program.now }
-    requires typed { Typed program.now }
-    requires keeps { Keeps program.now }
-    requires fits { ContextFits program.now context.old }
-    requires event { IsEvent program.now.types event.now (out-Value event.now) }
+    requires serves { R.serves around.now.runner.now around.now.program.now }
+    requires typed { Typed around.now.program.now }
+    requires keeps { Keeps around.now.program.now }
+    requires fits { ContextFits around.now.program.now context.old }
+    requires event { IsEvent around.now.program.now.types event.now (out-Value event.now) }
     requires fuel { IsSmall context.old }
-    ensures means { OnOk result (context.new ≡ stepped_born program.now event.now birth context.old) }
+    ensures means { OnOk result (context.new ≡ stepped_born around.now.program.now (stimulus.Event event.now) birth context.old) }
     ensures small { OnOk result (IsSmall context.new) }
 {
-    match call_of(alloc, program, context, birth, event)? {
+    match call_of(around.alloc, around.program, context, birth, event)? {
         None => Ok(()),
-        Some(call) => call_back(runner, alloc, program, context, call),
+        Some(call) => call_back(around, context, call),
     }
 }
 
 /// The same, while the context isn't spent.
 fn step_unless_spent<R: BodyRunner>(
-    runner: &R,
-    alloc: Global,
-    program: &Program,
-    context: &mut Context,
+    around: &Around<'_, R>,
+    context: &mut LiveContext,
     event: &Value,
     birth: u64,
 ) -> Result<(), AllocError>
-    requires serves { R.serves runner.now program.now }
-    requires typed { Typed program.now }
-    requires keeps { Keeps program.now }
-    requires fits { ContextFits program.now context.old }
-    requires event { IsEvent program.now.types event.now (out-Value event.now) }
+    requires serves { R.serves around.now.runner.now around.now.program.now }
+    requires typed { Typed around.now.program.now }
+    requires keeps { Keeps around.now.program.now }
+    requires fits { ContextFits around.now.program.now context.old }
+    requires event { IsEvent around.now.program.now.types event.now (out-Value event.now) }
     requires fuel { IsSmall context.old }
-    ensures means { OnOk result (context.new ≡ unless_spent (stepped_born program.now event.now birth) context.old) }
-    ensures fits { OnOk result (ContextFits program.now context.new) }
+    ensures means { OnOk result (context.new ≡ unless_spent (stepped_born around.now.program.now (stimulus.Event event.now) birth) context.old) }
+    ensures fits { OnOk result (ContextFits around.now.program.now context.new) }
     ensures small { OnOk result (IsSmall context.new) }
 {
-    if context.spent {
+    if context.is_spent() {
         return Ok(());
     }
-    step(runner, alloc, program, context, event, birth)
-}
-
-fn births_of(alloc: Global, listeners: &[Listener]) -> Result<Vec<u64>, AllocError>
-    ensures { IfOk result (λ births. births.items ≡ map (λ l. l.birth) listeners.now) }
-{
-    let mut births = Vec::new(alloc);
-    for listener in listeners {
-        births.push(listener.birth)?;
-    }
-    Ok(births)
+    step(around, context, event, birth)
 }
 
 /// The listeners of these births are stepped, each while it is live.
 fn step_all<R: BodyRunner>(
-    runner: &R,
-    alloc: Global,
-    program: &Program,
-    context: &mut Context,
+    around: &Around<'_, R>,
+    context: &mut LiveContext,
     event: &Value,
     births: &[u64],
 ) -> Result<(), AllocError>
-    requires serves { R.serves runner.now program.now }
-    requires typed { Typed program.now }
-    requires keeps { Keeps program.now }
-    requires fits { ContextFits program.now context.old }
-    requires event { IsEvent program.now.types event.now (out-Value event.now) }
+    requires serves { R.serves around.now.runner.now around.now.program.now }
+    requires typed { Typed around.now.program.now }
+    requires keeps { Keeps around.now.program.now }
+    requires fits { ContextFits around.now.program.now context.old }
+    requires event { IsEvent around.now.program.now.types event.now (out-Value event.now) }
     requires fuel { IsSmall context.old }
-    ensures means { OnOk result (context.new ≡ turn program.now event.now births.now context.old) }
+    ensures means { OnOk result (context.new ≡ turn around.now.program.now (stimulus.Event event.now) births.now context.old) }
     ensures small { OnOk result (IsSmall context.new) }
 {
     'births: for birth in births {
-        step_unless_spent(runner, alloc, program, context, event, *birth)?;
+        step_unless_spent(around, context, event, *birth)?;
     }
     Ok(())
 }
 
 /// A turn: the listeners that live now, in order of birth, each while it is live.
 pub fn turn<R: BodyRunner>(
-    runner: &R,
-    alloc: Global,
-    program: &Program,
-    context: &mut Context,
+    around: &Around<'_, R>,
+    context: &mut LiveContext,
     event: &Value,
 ) -> Result<(), AllocError>
-    requires serves { R.serves runner.now program.now }
-    requires typed { Typed program.now }
-    requires keeps { Keeps program.now }
-    requires fits { ContextFits program.now context.old }
-    requires event { IsEvent program.now.types event.now (out-Value event.now) }
+    requires serves { R.serves around.now.runner.now around.now.program.now }
+    requires typed { Typed around.now.program.now }
+    requires keeps { Keeps around.now.program.now }
+    requires fits { ContextFits around.now.program.now context.old }
+    requires event { IsEvent around.now.program.now.types event.now (out-Value event.now) }
     requires fuel { IsSmall context.old }
-    ensures means { OnOk result (context.new ≡ turn program.now event.now (births_in program.now context.old) context.old) }
+    ensures means { OnOk result (context.new ≡ turn around.now.program.now (stimulus.Event event.now) (births_in context.old) context.old) }
     ensures small { OnOk result (IsSmall context.new) }
 {
-    let births = births_of(alloc, context.listeners.as_slice())?;
-    step_all(runner, alloc, program, context, event, births.as_slice())
+    let births = context.births_noted()?;
+    step_all(around, context, event, births.as_slice())
 }

@@ -7,6 +7,7 @@ use Rattle.epl_values.specs.declared.shape.Shape.TheFolds.{fold_out-Shape, map-S
 use Rattle.epl_values.specs.declared.shape.Shape.TheOpen as layer
 use Rattle.epl_values.specs.declared.shape.Shape.TheVariants as shape
 use Rattle.epl_values.specs.declared.shape.Field.{Field}
+use Rattle.epl_values.specs.declared.value.Pair.{Pair}
 use Rattle.typed_program.specs.declared.program.Program.{Program}
 use Rattle.event_types.specs.Types.{fields_of}
 use Rattle.value_shapes.specs.Fits.{Fit, AllFit}
@@ -42,11 +43,11 @@ module _ (types : List EventShape) where
       subst (Fit types x) (sym shape.rolls-Text) (subst (λ v. Fit types v shape.Text) (sym is) (text_fits types bytes))
   layer_fits P inner (layer.Sequence element) x text (items, is, spells) =
       subst (Fit types x) (sym (shape.rolls-Sequence element)) (subst (λ v. Fit types v (shape.Sequence element)) (sym is)
-          (sequence_made types items element (list_each (P (form_of element)) (λ v. Fit types v element) (inner element) 91 93 items text spells)))
+          (sequence_made types items element (list_each (P (form_of element)) (λ (v : Value). Fit types v element) (inner element) 91 93 items text spells)))
   layer_fits P inner (layer.Dictionary key item) x text (entries, is, spells) =
-      let K = λ v. Fit types v key in
-      let V = λ v. Fit types v item in
-      let known = list_each (SpellsEntry (P (form_of key)) (P (form_of item))) (IsKnown K V) (λ p t h. (inner key _ _ h.7, inner item _ _ h.8)) 123 125 entries text spells in
+      let K = λ (v : Value). Fit types v key in
+      let V = λ (v : Value). Fit types v item in
+      let known = list_each (SpellsEntry (P (form_of key)) (P (form_of item))) (IsKnown K V) (λ (p : Pair) (t : List ℕ) h. (inner key _ _ h.7, inner item _ _ h.8)) 123 125 entries text spells in
       subst (Fit types x) (sym (shape.rolls-Dictionary key item)) (subst (λ v. Fit types v (shape.Dictionary key item)) (sym is) (dictionary_made types (entered entries) key item (entered_each K V entries known) (entered_ascend entries)))
   layer_fits P inner (layer.Event n) x text (event, xs, there, is, (before, behind, inside, whole, blanks, more, spells)) =
       let fields = subst (λ (o : Option EventShape). AllFit types xs (map (λ f. f.shape) (fields_of o))) (sym there) (fields_fit P inner true event.fields xs inside spells) in

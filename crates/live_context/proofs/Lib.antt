@@ -1,3 +1,5 @@
 mod Common
-pub mod Places
 pub mod Lending
+pub mod Order
+pub mod Places
+pub mod Searching

@@ -4,7 +4,7 @@ ghost use Rattle.context_meaning.specs.Contexts.{fresh, spend, with_fuel, paid, 
 ghost use Rattle.live_context.specs.Lent.{lent, listed, first_of, rest_of};
 
 use crate::found::{
-    births_of, born, busy, lend_from, others, put_into, put_mark, put_row, without_born,
+    births_of, born, busy, lend_from, put_into, put_mark, put_row, take_out, without_born,
     without_its,
 };
 use crate::lent::Lent;
@@ -42,6 +42,10 @@ impl Model for LiveContext {
     ghost coded = { Prim.hlevel (codes, value.the_row.coded) };
 
     ghost view = { λ c. record { slot = c.slot; slots = c.slots; fuel = c.fuel; births = c.births; begun = c.begun; instances = c.instances.items; listeners = c.listeners.items; row = c.row; front = reverse c.waiting; lines = c.lines; spent = c.spent } };
+
+    ghost use Rattle.live_context.specs.Order.{InOrder};
+
+    ghost invariant = { λ c. InOrder c.births c.begun c.listeners.items c.instances.items };
 }
 
 impl LiveContext {
@@ -177,7 +181,7 @@ impl LiveContext {
     pub fn remove(&mut self, number: u64)
         ensures { self.new ≡ without_instance number self.old }
     {
-        others(number, &mut self.instances);
+        take_out(number, &mut self.instances);
     }
 
     // ---- listeners

@@ -1,7 +1,5 @@
-use Rattle.std.proofs.Common.{sym, subst}
-use Rattle.context_meaning.specs.Fits.{ContextFits}
 use Rattle.context_steps.proofs.Callbacks.{paid_fits}
 use Rattle.context_steps.proofs.handling.load.Goals as goal
 
-pub load_paid-requires-clause-fits : goal.load_paid-requires-clause-fits
-load_paid-requires-clause-fits g c = subst (ContextFits c.args.program.now) (sym c.pay.ensures.context) (paid_fits c.args.program.now 5 c.args.context.now c.requires.fits)
+pub begin_monitor-requires-clause-fits : goal.begin_monitor-requires-clause-fits
+begin_monitor-requires-clause-fits g c = paid_fits c.args.around.now.program.now 5 c.args.context.now c.charge.new.context c.charge.ensures.after c.requires.fits

@@ -1,5 +1,5 @@
 use Rattle.std.proofs.Common.{◌≡◌, ◌++◌, drop}
-use Rattle.context_meaning.specs.Turns.{bound_from}
+use Rattle.context_meaning.specs.Listening.{bound_from}
 use Rattle.context_steps.proofs.turns.push_bound.Given as goal
 
 abbrev pub invariant-loop-place : goal.invariant-loop-place

@@ -1,5 +1,0 @@
-use Rattle.context_steps.proofs.Places.{placed}
-use Rattle.context_steps.proofs.ends.place_of.Goals as goal
-
-pub returns : goal.returns
-returns c = placed c.args.number c.args.instances.now c.first_at.result c.first_at.ensures

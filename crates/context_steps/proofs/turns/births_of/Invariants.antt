@@ -1,6 +1,0 @@
-use Rattle.std.proofs.Common.{◌≡◌, map, take}
-use Rattle.context_meaning.specs.declared.context.Listener.{Listener}
-use Rattle.context_steps.proofs.turns.births_of.Given as goal
-
-abbrev pub invariant-loop-listener : goal.invariant-loop-listener
-invariant-loop-listener l = l.births.items ≡ map (λ (x : Listener). x.birth) (take l.listener-index l.listeners)
