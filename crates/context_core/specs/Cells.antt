@@ -2,7 +2,7 @@
 use Rattle.std.specs.Prelude.{ℕ, List, [], Bool, true, false}
 use Rattle.actor_theory.specs.declared.entry.Entry.{Entry}
 use Rattle.actor_theory.specs.Machine.{Cell}
-use Rattle.context_meaning.specs.declared.context.Context.{Context}
+use Rattle.context_meaning.specs.Contexts.{Context}
 use Rattle.record_book.specs.declared.cargo.Cargo.{Cargo}
 use Rattle.record_book.specs.declared.record.ContextRecord.{ContextRecord}
 use Rattle.context_meaning.specs.Contexts.{fresh}

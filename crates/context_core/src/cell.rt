@@ -6,21 +6,20 @@ ghost use Rattle.record_book.specs.Fits.{CargoFits};
 ghost use Rattle.naive_meaning.specs.Actors.{contexts_of};
 ghost use Rattle.context_core.specs.Cells.{fresh_cell, record_of, is_spent};
 
-use context_meaning::{Context, Instances, Listeners};
 use context_steps::handle;
 use epl_values::{List, Memory};
+use live_context::LiveContext;
 use record_book::{ContextRecord, Entries, Entry, Handled, HandledList, Lines, Settings};
 use std::alloc::Global;
 use std::marker::Model;
 use tree_walker::TreeWalker;
 use typed_program::Program;
-use typed_runs::runs_keep_shapes;
 
 /// A running context: what it is, the number of its last handling, and its log.
 #[derive(Drop)]
 pub struct Cell {
     alloc: Global,
-    context: Context,
+    context: LiveContext,
     number: u64,
     log: HandledList,
 }
@@ -30,7 +29,7 @@ pub type Cells = List<Cell>;
 
 impl Model for Cell {
     ghost use Rattle.actor_theory.specs.Machine.{Cell as CellOf};
-    ghost use Rattle.context_meaning.specs.declared.context.Context.{Context};
+    ghost use Rattle.context_meaning.specs.Contexts.{Context};
     ghost use Rattle.record_book.specs.declared.cargo.Cargo.{Cargo};
     ghost use Rattle.epl_values.specs.contracts.value.Value as value;
     ghost use Rattle.std.specs.Coded.{codes};
@@ -56,22 +55,9 @@ impl Cell {
     pub fn new(alloc: Global, slot: u8, settings: Settings) -> Cell
         ensures { result ≡ fresh_cell slot settings.contexts settings.fuel }
     {
-        let context = Context {
-            slot,
-            slots: settings.contexts,
-            fuel: settings.fuel,
-            births: 0,
-            begun: 0,
-            instances: Instances::new(alloc),
-            listeners: Listeners::new(alloc),
-            row: List::new(alloc),
-            front: List::new(alloc),
-            lines: Lines::new(alloc),
-            spent: false,
-        };
         Cell {
             alloc,
-            context,
+            context: LiveContext::new(alloc, slot, settings.contexts, settings.fuel),
             number: 0,
             log: HandledList::new(alloc),
         }
@@ -89,7 +75,6 @@ impl Cell {
         ensures fits { OnOk result (ContextFits program.now self.new.state) }
         ensures answer { IfOk result (λ answer. is_spent answer ≡ self.new.state.spent) }
     {
-        runs_keep_shapes();
         // A stamp is below 2^63 in every run, so there is a next number.
         let Some(number) = self.number.max(entry.stamp).checked_add(1) else {
             return Err(Memory);
@@ -104,7 +89,7 @@ impl Cell {
         )?;
         self.number = number;
         self.log.push(Handled { entry, number })?;
-        if self.context.spent {
+        if self.context.is_spent() {
             return Ok(Handling::Spent);
         }
         Ok(Handling::Quiet)
@@ -114,7 +99,7 @@ impl Cell {
     pub fn lines(&self) -> &Lines
         ensures { result.now ≡ self.now.state.lines }
     {
-        &self.context.lines
+        self.context.lines()
     }
 
     /// What it has handled.
@@ -135,7 +120,7 @@ impl Cell {
     pub fn spent(&self) -> bool
         ensures { result ≡ self.now.state.spent }
     {
-        self.context.spent
+        self.context.is_spent()
     }
 
     /// Its record, with what was sent to it and not handled.
@@ -143,9 +128,9 @@ impl Cell {
         ensures { result ≡ record_of self left }
     {
         let Cell { context, log, .. } = self;
-        let spent = context.spent;
+        let spent = context.is_spent();
         ContextRecord {
-            lines: context.lines,
+            lines: context.into_lines(),
             handled: log,
             left,
             spent,

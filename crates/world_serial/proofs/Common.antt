@@ -6,7 +6,7 @@ pub use Rattle.actor_theory.specs.Language.{Sent, number_after, stamped}
 pub use Rattle.actor_theory.specs.Machine.{Cell, ReaderCell, Stand, cell_after, delivered, empty_queues, fresh_cells, queue_at, world_of}
 pub use Rattle.actor_theory.specs.declared.entry.Entry.{Entry}
 pub use Rattle.record_book.specs.declared.cargo.Cargo.{Cargo}
-pub use Rattle.context_meaning.specs.declared.context.Context.{Context}
+pub use Rattle.context_meaning.specs.Contexts.{Context}
 pub use Rattle.epl_values.specs.declared.value.Value.{Value}
 pub use Rattle.naive_meaning.specs.Actors.{contexts_of, item_sends, loads_below, reader_of}
 pub use Rattle.record_book.specs.Fits.{ItemsFit}

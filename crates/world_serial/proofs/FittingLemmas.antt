@@ -7,11 +7,9 @@ use Rattle.epl_values.specs.declared.value.Value.{out-Value}
 use Rattle.actor_theory.specs.Machine.{queue_in}
 use Rattle.value_shapes.specs.Fits.{IsEvent}
 use Rattle.record_book.specs.declared.cargo.Cargo.TheVariants as cargo
-use Rattle.context_meaning.specs.declared.context.Listener.{Listener}
 use Rattle.context_meaning.specs.Contexts.{fresh}
-use Rattle.context_meaning.specs.Fits.{ContextFits, InstanceFits, ListenerFits}
-use Rattle.record_book.specs.Fits.{CargoFits}
-use Rattle.record_book.specs.Fits.{EntriesFit, EntryFits, ItemFits}
+use Rattle.context_meaning.specs.Fits.{ContextFits, InstanceFits, ListenerFits, WaitingFits}
+use Rattle.record_book.specs.Fits.{CargoFits, EntriesFit, EntryFits, ItemFits}
 use Rattle.world_serial.specs.Fitting.{CellFits, Fitting}
 use Rattle.world_serial.proofs.Resting.{handle_rests}
 use Rattle.world_serial.proofs.TurnLemmas.{Standing, some-first, some-item, waiting-same}
@@ -138,9 +136,7 @@ sent-fits p contexts cells reader rest queued queued' queued'' q q' e count firs
 
 -- a context that has handled nothing
 fresh-context_fits : (p : Program) (slot slots fuel : ℕ) → ContextFits p (fresh slot slots fuel)
-fresh-context_fits p slot slots fuel =
-    let Event : Value → Type 0 = λ v. IsEvent p.types v (out-Value v) in
-    record { instances = All-nil (InstanceFits p 0); listeners = All-nil (ListenerFits p 0 []); births = tt; born = All-nil (λ (l : Listener). l.birth ≤ 0); row = All-nil Event; front = All-nil Event }
+fresh-context_fits p slot slots fuel = record { instances = All-nil (InstanceFits p 0); listeners = All-nil (ListenerFits p 0 []); row = All-nil (WaitingFits p); front = All-nil (WaitingFits p) }
 
 fresh-cells_fit : (p : Program) (contexts fuel n : ℕ) → fuel < 2 ^ 64 - 1 → All (CellFits p) (fresh_cells (contexts_of p contexts fuel) n)
 fresh-cells_fit p contexts fuel zero small = All-nil (CellFits p)
