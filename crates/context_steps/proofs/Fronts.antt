@@ -2,6 +2,8 @@
 use Rattle.std.proofs.Common.{◌+◌, ◌*◌, ◌-◌, ◌<◌, ◌∷◌, ◌≡◌, ◌++◌, length}
 use Rattle.context_steps.proofs.Common.{ℕ, zero, suc, Bool, true, false, cond, List, [], Option, Some, None, slice_get, refl, sym, ap, subst, ◌∙◌, arith, Value, Program, Context, paid, with_some, ran, ContextFits, CanRunIn, Keeps}
 use Rattle.std.specs.List.{All}
+use Rattle.std.specs.Prelude.{◌==◌}
+use Rattle.std.proofs.Common.{eqb-true}
 use Rattle.typed_program.specs.declared.program.Monitor.{Monitor}
 use Rattle.record_book.specs.declared.cargo.Cargo.{Cargo}
 use Rattle.record_book.specs.declared.cargo.Cargo.TheVariants as cargo
@@ -12,7 +14,7 @@ use Rattle.context_meaning.specs.declared.context.Stimulus.TheVariants as stimul
 use Rattle.context_meaning.specs.Contexts.{has_instances, row_in_front, with_front, with_instance}
 use Rattle.context_meaning.specs.Fits.{InstanceFits, WaitingFits}
 use Rattle.context_meaning.specs.Turns.{cargo_handled, defaults_in, first_handled, front_handled, front_weight, loaded, settled, stimulated, thing_handled}
-use Rattle.std.proofs.lemmas.List.Elements.{All-head, All-tail}
+use Rattle.std.proofs.lemmas.List.Elements.{All-head, All-nil, All-tail}
 use Rattle.context_meaning.proofs.Handling.{with_front_fits}
 use Rattle.context_meaning.proofs.Marks.{stimulated_completed}
 use Rattle.context_meaning.proofs.Resting.{cargo_row, thing_row}
@@ -111,6 +113,33 @@ settles_same program load c r keeps fit is so = record {
 -- an event, and then its mark behind its row
 pub settles_event : (program : Program) (e v : Value) (c d r : Context) → Keeps program → ContextFits program c → CargoFits program (cargo.Event e) → d ≡ stimulated program (stimulus.Event e) c → v ≡ e → r ≡ row_in_front (waiting.Completed v ∷ []) d → SettlesAs program (cargo.Event e) c r
 settles_event program e v c d r keeps fit is d_is v_is so = settles_same program (cargo.Event e) c r keeps fit is (so ∙ ap (λ (x : Value). row_in_front (waiting.Completed x ∷ []) d) v_is ∙ ap (row_in_front (waiting.Completed e ∷ [])) d_is)
+
+-- ---- a mark that comes next
+
+-- handled at once, it comes to what it comes to behind the row
+at_once : (program : Program) (e : Value) (d : Context) → d.row ≡ [] → d.spent ≡ false → settled program (thing_handled program (waiting.Completed e) d) ≡ settled program (row_in_front (waiting.Completed e ∷ []) d)
+at_once program e d empty live =
+    subst (λ (row : List Waiting). settled program (thing_handled program (waiting.Completed e) (record d { row = row })) ≡ settled program (row_in_front (waiting.Completed e ∷ []) (record d { row = row }))) (sym empty)
+    (sym (settled_step program (row_in_front (waiting.Completed e ∷ []) (record d { row = [] })) refl live (omega arith)))
+
+-- nothing stands in a row without length
+pub empty_row : (ws : List Waiting) → true ≡ (length ws == 0) → ws ≡ []
+empty_row [] h = refl
+empty_row (w ∷ ws) h = absurd (omega (arith, eqb-true (length (w ∷ ws)) 0 (sym h)))
+
+-- and what is left fits
+at_once_fits : (program : Program) (e : Value) (d : Context) → Keeps program → d.row ≡ [] → WaitingFits program (waiting.Completed e) → ContextFits program (row_in_front (waiting.Completed e ∷ []) d) → ContextFits program (thing_handled program (waiting.Completed e) d)
+at_once_fits program e d keeps empty event =
+    subst (λ (row : List Waiting). ContextFits program (row_in_front (waiting.Completed e ∷ []) (record d { row = row })) → ContextFits program (thing_handled program (waiting.Completed e) (record d { row = row }))) (sym empty)
+    (λ fit. keeps.thing (waiting.Completed e) (record d { row = [] }) (record { instances = fit.instances; listeners = fit.listeners; row = All-nil (WaitingFits program); front = All-tail (WaitingFits program) (waiting.Completed e) d.front fit.front }) event)
+
+-- an event whose row stays empty, and then its mark
+pub settles_now : (program : Program) (e : Value) (c d r : Context) → Keeps program → ContextFits program c → CargoFits program (cargo.Event e) → d ≡ stimulated program (stimulus.Event e) c → d.row ≡ [] → d.spent ≡ false → ((v : Value) → r ≡ row_in_front [] (stimulated program (stimulus.Completed v) d)) → SettlesAs program (cargo.Event e) c r
+settles_now program e c d r keeps fit is d_is empty live so = record {
+  same = ap (settled program) (so e) ∙ at_once program e d empty live ∙ ap (λ (x : Context). settled program (row_in_front (waiting.Completed e ∷ []) x)) d_is;
+  row = ap (λ (x : Context). x.row) (so e);
+  fits = subst (ContextFits program) (sym (so e)) (at_once_fits program e d keeps empty is (subst (λ (x : Context). ContextFits program (row_in_front (waiting.Completed e ∷ []) x)) (sym d_is) (keeps.thing (waiting.Event e) c fit is)));
+}
 
 -- a load
 pub settles_load : (program : Program) (monitor : ℕ) (c d r : Context) → Keeps program → ContextFits program c → CargoFits program (cargo.Load monitor) → d ≡ loaded program monitor c → r ≡ row_in_front [] d → SettlesAs program (cargo.Load monitor) c r

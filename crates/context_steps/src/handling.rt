@@ -1,4 +1,4 @@
-ghost use Rattle.std.specs.Prelude.{◌≡◌, ◌<◌, ◌≤◌, ◌+◌, ◌-◌, ◌^◌, [], length, map, slice_get, Some, IfOk, OnOk};
+ghost use Rattle.std.specs.Prelude.{◌≡◌, ◌<◌, ◌≤◌, ◌+◌, ◌-◌, ◌^◌, [], ◌∷◌, length, map, slice_get, Some, IfOk, OnOk};
 ghost use Rattle.std.specs.Option.{option_copied};
 ghost use Rattle.epl_values.specs.declared.value.Value.{Value, out-Value};
 ghost use Rattle.typed_program.specs.Typed.{Typed};
@@ -8,6 +8,7 @@ ghost use Rattle.context_meaning.specs.declared.context.Stimulus.TheVariants as 
 ghost use Rattle.context_meaning.specs.declared.context.Waiting.TheVariants as waiting;
 ghost use Rattle.record_book.specs.declared.cargo.Cargo.TheVariants as load;
 ghost use Rattle.context_meaning.specs.Turns.{stimulated, loaded, thing_handled, cargo_handled, settled, handle};
+ghost use Rattle.context_meaning.specs.Contexts.{row_in_front};
 ghost use Rattle.context_meaning.specs.Fits.{ContextFits, WaitingFits};
 ghost use Rattle.record_book.specs.Fits.{CargoFits};
 ghost use Rattle.context_steps.specs.Steps.{IsSmall, Keeps, begun_with, SettlesAs};
@@ -171,7 +172,27 @@ fn thing<R: BodyRunner>(
 
 // ---- an entry
 
-/// The event of an entry is handled, and a copy of it is its mark.
+/// The mark of an event comes next, and is handled at once.
+fn mark_now(program: &Program, context: &mut LiveContext) -> Result<(), AllocError>
+    requires fuel { IsSmall context.old }
+    ensures means { OnOk result ((e : Value) → context.new ≡ row_in_front [] (stimulated program.now (stimulus.Completed e) context.old)) }
+    ensures small { OnOk result (IsSmall context.new) }
+{
+    mark(program, context);
+    context.put_in_front(None)
+}
+
+/// The row, and then a mark with a copy of the event, stand before what waits.
+fn put_mark(alloc: Global, context: &mut LiveContext, value: &Value) -> Result<(), AllocError>
+    requires fuel { IsSmall context.old }
+    ensures means { OnOk result (context.new ≡ row_in_front (waiting.Completed value.now ∷ []) context.old) }
+    ensures small { OnOk result (IsSmall context.new) }
+{
+    let completed = copy(alloc, value)?;
+    context.put_in_front(Some(Waiting::Completed(completed)))
+}
+
+/// The event of an entry is handled. Where nothing was put in the row its mark comes next, and is handled at once.
 fn entry_event<R: BodyRunner>(
     around: &Around<'_, R>,
     context: &mut LiveContext,
@@ -187,8 +208,14 @@ fn entry_event<R: BodyRunner>(
     ensures small { OnOk result (IsSmall context.new) }
 {
     event(around, context, value)?;
-    let completed = copy(around.alloc, value)?;
-    context.put_in_front(Some(Waiting::Completed(completed)))
+    if context.is_spent() {
+        return put_mark(around.alloc, context, value);
+    }
+    if context.is_row_empty() {
+        mark_now(around.program, context)
+    } else {
+        put_mark(around.alloc, context, value)
+    }
 }
 
 /// A load is handled.

@@ -1,6 +1,13 @@
+use Rattle.std.proofs.Common.{refl, sym}
 use Rattle.std.proofs.lemmas.Result.{on_ok_weaker}
-use Rattle.context_steps.proofs.Fronts.{settles_event}
+use Rattle.context_steps.proofs.Fronts.{empty_row, settles_event, settles_now}
 use Rattle.context_steps.proofs.handling.entry_event.Goals as goal
 
-pub returns-clause-means : goal.returns-clause-means
-returns-clause-means g c = on_ok_weaker c.put_in_front.result (settles_event c.args.around.now.program.now c.args.value.now c.in_ok-completed.completed c.args.context.now c.event.new.context c.put_in_front.new.self c.requires.keeps c.requires.fits c.requires.event c.in_ok-event.ensures.means c.in_ok-completed.ensures) c.put_in_front.ensures
+pub returns-then-is_spent-clause-means : goal.returns-then-is_spent-clause-means
+returns-then-is_spent-clause-means g c = on_ok_weaker c.put_mark.result (settles_event c.args.around.now.program.now c.args.value.now c.args.value.now c.args.context.now c.event.new.context c.put_mark.new.context c.requires.keeps c.requires.fits c.requires.event c.in_ok-event.ensures.means refl) c.put_mark.ensures.means
+
+pub returns-then-is_row_empty-clause-means : goal.returns-then-is_row_empty-clause-means
+returns-then-is_row_empty-clause-means g c = on_ok_weaker c.mark_now.result (settles_now c.args.around.now.program.now c.args.value.now c.args.context.now c.event.new.context c.mark_now.new.context c.requires.keeps c.requires.fits c.requires.event c.in_ok-event.ensures.means (empty_row c.event.new.context.row c.if-is_row_empty.ensures) (sym c.if-is_spent.ensures)) c.mark_now.ensures.means
+
+pub returns-else-is_row_empty-clause-means : goal.returns-else-is_row_empty-clause-means
+returns-else-is_row_empty-clause-means g c = on_ok_weaker c.put_mark-else-is_row_empty.result (settles_event c.args.around.now.program.now c.args.value.now c.args.value.now c.args.context.now c.event.new.context c.put_mark-else-is_row_empty.new.context c.requires.keeps c.requires.fits c.requires.event c.in_ok-event.ensures.means refl) c.put_mark-else-is_row_empty.ensures.means
