@@ -1,18 +1,16 @@
-use Rattle.std.proofs.Common.{ap, subst, sym}
-use Rattle.actor_theory.specs.Machine.{Cell}
-use Rattle.record_book.specs.declared.cargo.Cargo.{Cargo}
-use Rattle.context_meaning.specs.declared.context.Context.{Context}
-use Rattle.context_meaning.specs.Fits.{ContextFits}
-use Rattle.context_meaning.proofs.Handling.{handle_fits}
+use Rattle.std.proofs.Common.{◌≡◌, rules}
+use Rattle.actor_theory.specs.Language.{number_after}
+use Rattle.context_core.proofs.Sending.{after}
 use Rattle.context_core.proofs.cell.Cell.handle.Goals as goal
 
--- the law is what runs_keep_shapes of typed_runs ensures
-pub returns-then-self-clause-fits : goal.returns-then-self-clause-fits
-returns-then-self-clause-fits c =
-    let fits = subst (ContextFits c.args.program.now) (ap (λ (x : Cell Context Cargo). x.state) (sym c.self.view_is)) c.requires.fits in
-    subst (ContextFits c.args.program.now) (sym c.in_ok-handle.ensures) (handle_fits c.args.program.now c.requires.typed c.runs_keep_shapes.ensures _ _ _ c.requires.cargo fits)
+pub returns-then-is_spent-clause-after : goal.returns-then-is_spent-clause-after
+returns-then-is_spent-clause-after c settings =
+    let numbered : c.in-Some.number ≡ number_after c.self.inside.number c.args.entry = search rules in
+    after c.args.program.now settings c.args.self.now c.self.inside.context c.handle.new.context c.self.inside.number c.in-Some.number c.self.inside.log c.push.new.self c.self.inside.outboxes.items c.args.entry c.self.view_is numbered c.in_ok-handle.ensures.means
+    c.in_ok-push.ensures.ok
 
-pub returns-clause-fits : goal.returns-clause-fits
-returns-clause-fits c =
-    let fits = subst (ContextFits c.args.program.now) (ap (λ (x : Cell Context Cargo). x.state) (sym c.self.view_is)) c.requires.fits in
-    subst (ContextFits c.args.program.now) (sym c.in_ok-handle.ensures) (handle_fits c.args.program.now c.requires.typed c.runs_keep_shapes.ensures _ _ _ c.requires.cargo fits)
+pub returns-clause-after : goal.returns-clause-after
+returns-clause-after c settings =
+    let numbered : c.in-Some.number ≡ number_after c.self.inside.number c.args.entry = search rules in
+    after c.args.program.now settings c.args.self.now c.self.inside.context c.handle.new.context c.self.inside.number c.in-Some.number c.self.inside.log c.push.new.self c.self.inside.outboxes.items c.args.entry c.self.view_is numbered c.in_ok-handle.ensures.means
+    c.in_ok-push.ensures.ok
