@@ -1,8 +1,6 @@
 mod Common
-pub mod Sends
+pub mod Delivery
 pub mod TurnLemmas
+pub mod ItemLemmas
 pub mod RoundLemmas
-pub mod StartLemmas
 pub mod EndLemmas
-pub mod Resting
-pub mod FittingLemmas
