@@ -1,6 +1,8 @@
 mod Common
 pub mod Delivery
 pub mod TurnLemmas
+pub mod FittingLemmas
+pub mod StandLemmas
 pub mod ItemLemmas
 pub mod RoundLemmas
 pub mod EndLemmas
