@@ -1,7 +1,17 @@
 use Rattle.std.proofs.Common.{◌≡◌, ◌≤◌, ◌∙◌, refl, arith}
-use Rattle.world_serial.specs.Serial.{moment_of}
+use Rattle.world_serial.specs.Serial.{cost, moment_of, weight}
+use Rattle.actor_theory.proofs.Rounding.{rounding-none}
+use Rattle.naive_meaning.specs.Actors.{actors_of}
 use Rattle.world_serial.proofs.RoundLemmas.{turn-more, round-over}
 use Rattle.world_serial.proofs.rounds.round.Goals as goal
+
+pub slots-init : goal.slots-init
+slots-init c = record {
+  standing = c.requires.standing;
+  fitting = c.requires.fitting;
+  rounding = rounding-none (actors_of c.args.program.now c.args.settings) weight cost c.args.takes (moment_of c.args.settings.contexts c.args.world.now);
+  waits = refl;
+}
 
 pub slots-preserved : goal.slots-preserved
 slots-preserved c =
