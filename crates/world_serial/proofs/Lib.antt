@@ -4,5 +4,6 @@ pub mod TurnLemmas
 pub mod FittingLemmas
 pub mod StandLemmas
 pub mod ItemLemmas
+pub mod StartLemmas
 pub mod RoundLemmas
 pub mod EndLemmas

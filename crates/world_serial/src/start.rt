@@ -1,6 +1,8 @@
-ghost use Rattle.std.specs.Prelude.{◌≡◌, ◌<◌, ◌≤◌, ◌-◌, ◌^◌, length, IfOk};
+ghost use Rattle.std.specs.Prelude.{◌≡◌, ◌<◌, ◌≤◌, ◌-◌, ◌^◌, length, All, IfOk};
 ghost use Rattle.record_book.specs.Fits.{ItemsFit};
 ghost use Rattle.typed_program.specs.Typed.{Typed};
+ghost use Rattle.typed_program.specs.declared.program.Program.{Program as TheProgram};
+ghost use Rattle.context_core.specs.Cells.{Rests};
 ghost use Rattle.world_serial.specs.Serial.{IsBooted, IsFresh, fresh_parts};
 
 use crate::World;
@@ -15,7 +17,9 @@ use typed_program::Program;
 
 fn fresh_cells(alloc: Global, settings: Settings) -> Result<Vec<Cell>, Memory>
     requires few { settings.contexts < 255 }
-    ensures { IfOk result (λ cells. cells.items ≡ fresh_parts settings settings.contexts) }
+    requires fuel { settings.fuel < 2 ^ 64 - 1 }
+    ensures fresh { IfOk result (λ cells. cells.items ≡ fresh_parts settings settings.contexts) }
+    ensures rests { IfOk result (λ cells. (p : TheProgram) → All (Rests p) cells.items) }
 {
     let mut cells = Vec::new(alloc);
     'slots: for slot in 0..settings.contexts {
