@@ -1,9 +1,9 @@
 -- What an actor sends, by way of its outboxes.
-use Rattle.std.proofs.Common.{◌≡◌, ◌<◌, ◌≤◌, ◌∷◌, ◌++◌, append-nil, ℕ, zero, suc, List, [], Some, refl, sym, ◌∙◌, ap, subst, arith, length, map, slice_get, slice_set}
+use Rattle.std.proofs.Common.{◌≡◌, ◌<◌, ◌∷◌, ◌++◌, append-nil, ℕ, zero, suc, List, [], Some, refl, sym, ◌∙◌, ap, subst, arith, length, map, slice_get, slice_set}
 use Rattle.actor_theory.specs.declared.entry.Entry.{Entry}
 use Rattle.actor_theory.specs.Language.{Sent, mail}
 use Rattle.actor_theory.specs.Machine.{queue_at, empty_queues, delivered}
-use Rattle.actor_theory.proofs.Queues.{delivered-at, length-arrived, queue-past}
+use Rattle.actor_theory.proofs.Queues.{delivered-at, length-arrived}
 use Rattle.record_book.specs.declared.cargo.Cargo.{Cargo}
 use Rattle.std.specs.Prelude.{◌^◌, ◌-◌}
 use Rattle.actor_theory.specs.Machine.{Cell}

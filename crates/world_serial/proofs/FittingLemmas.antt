@@ -1,5 +1,5 @@
 -- The parts fit, from the start on and behind each turn.
-use Rattle.world_serial.proofs.Common.{ℕ, zero, suc, List, [], Some, refl, sym, ◌∙◌, ap, subst, arith, length, get_or, nat_lt, slice_set, Entry, Sent, stamped, queue_at, delivered, Cargo, first_of, rest_of}
+use Rattle.world_serial.proofs.Common.{ℕ, zero, suc, List, [], Some, sym, ap, subst, arith, length, get_or, nat_lt, slice_set, Entry, Sent, stamped, queue_at, delivered, Cargo, first_of, rest_of}
 use Rattle.std.proofs.Common.{◌≡◌, ◌<◌, ◌≤◌, ◌∷◌, ◌++◌, All, filter}
 use Rattle.std.proofs.lemmas.Option.{slice_get-get_or}
 use Rattle.std.proofs.lemmas.List.Elements.{All-nil, All-cons, All-head, All-tail, All-get_or, All-set, All-push, All-map, All-append, All-filter}
@@ -100,6 +100,10 @@ loads-fit p (suc n) le =
 empty-fit : (p : Program) (n : ℕ) → All (EntriesFit p) (empty_queues n)
 empty-fit p zero = All-nil (EntriesFit p)
 empty-fit p (suc n) = All-cons (EntriesFit p) [] (empty_queues n) (All-nil (EntryFits p)) (empty-fit p n)
+
+-- one more cell
+pub cells-more : (p : Program) (cells cells' : List CellPart) (c : CellPart) → cells' ≡ cells ++ c ∷ [] → All (Rests p) cells → Rests p c → All (Rests p) cells'
+cells-more p cells cells' c pushed fit rests = subst (All (Rests p)) (sym pushed) (All-push (Rests p) cells c fit rests)
 
 -- the parts with the loads queued
 pub begun-fits : (p : Program) (contexts : ℕ) (cells : List CellPart) (rest : List Item) (queued : List (List (Entry Cargo))) → All (Rests p) cells → rest ≡ [] → queued ≡ loaded_queues contexts (reader_of p) → Fitting p cells rest queued

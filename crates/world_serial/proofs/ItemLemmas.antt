@@ -1,5 +1,5 @@
 -- The reader takes an item, and hands over what it sends.
-use Rattle.std.proofs.Common.{◌≡◌, ◌+◌, ◌∷◌, ℕ, List, [], Bool, true, None, refl, sym, ◌∙◌, ap, subst, length, slice_set, Ok, Err, IfOk}
+use Rattle.std.proofs.Common.{◌≡◌, ◌+◌, ◌∷◌, List, [], Bool, true, None, refl, sym, ◌∙◌, ap, subst, length, slice_set, Ok, Err, IfOk}
 use Rattle.std.specs.Result.{OnOk}
 use Rattle.std.specs.declared.result.Result.{Result}
 use Rattle.actor_theory.specs.declared.entry.Entry.{Entry}

@@ -1,12 +1,11 @@
 -- The parts stand behind each turn of a slot.
 use Rattle.std.proofs.Common.{◌≡◌, ◌<◌, ◌∷◌}
-use Rattle.world_serial.proofs.Common.{ℕ, zero, suc, List, [], Bool, true, false, None, Some, refl, sym, ◌∙◌, ap, subst, arith, length, map, get_or, slice_get, slice_set, Entry, number_after, Cell, queue_at, Stepped, cell_after, delivered, Cargo, first_of, rest_of}
+use Rattle.world_serial.proofs.Common.{ℕ, zero, suc, List, [], Bool, true, false, None, Some, refl, sym, ◌∙◌, ap, subst, arith, length, get_or, slice_get, slice_set, Entry, number_after, queue_at, cell_after, delivered, Cargo, first_of, rest_of}
 use Rattle.std.proofs.lemmas.List.{length-map}
 use Rattle.std.proofs.lemmas.Option.{same_Some, slice_get_read}
 use Rattle.std.specs.Prelude.{IfSome}
 use Rattle.actor_theory.specs.Machine.{empty_queues}
 use Rattle.actor_theory.proofs.Queues.{length-set}
-use Rattle.context_meaning.specs.Contexts.{Context}
 use Rattle.naive_meaning.specs.Actors.{slots_of, reader_of}
 use Rattle.world_serial.specs.Common.{Program, Settings, CellPart, ReaderPart}
 use Rattle.world_serial.specs.Serial.{CellStands, Standing, cell_of, cells_in}

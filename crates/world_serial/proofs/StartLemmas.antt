@@ -1,6 +1,6 @@
 -- The parts at the start, and after boot.
 use Rattle.std.proofs.Common.{◌≡◌, ◌+◌, ◌∷◌, ◌++◌, ◌⊎◌}
-use Rattle.world_serial.proofs.Common.{ℕ, zero, suc, List, [], false, refl, sym, ◌∙◌, ap, subst, arith, length, slice_get, Entry, Cell, ReaderCell, queue_at, world_of, Stand, Cargo}
+use Rattle.world_serial.proofs.Common.{ℕ, zero, suc, List, [], false, refl, sym, ◌∙◌, ap, subst, arith, length, slice_get, Entry, Cell, ReaderCell, world_of, Stand, Cargo}
 use Rattle.std.specs.Prelude.{IfSome}
 use Rattle.std.proofs.lemmas.List.{length-append, map-append}
 use Rattle.actor_theory.specs.Joined.{slots_only}
@@ -34,6 +34,12 @@ fresh-cells p settings (suc n) =
 length-parts : (settings : Settings) (n : ℕ) → length (fresh_parts settings n) ≡ n
 length-parts settings zero = refl
 length-parts settings (suc n) = let ih = length-parts settings n in let more = length-append (fresh_parts settings n) (fresh_part n settings ∷ []) in omega arith
+
+-- one more of them
+pub parts-more : (settings : Settings) (slot : ℕ) (cells cells' : List CellPart) (c : CellPart) → cells' ≡ cells ++ c ∷ [] → cells ≡ fresh_parts settings slot → c ≡ fresh_part slot settings → cells' ≡ fresh_parts settings (slot + 1)
+parts-more settings slot cells cells' c pushed before fresh =
+    let more : slot + 1 ≡ suc slot = omega arith in
+    pushed ∙ ap (λ (cs : List CellPart). cs ++ c ∷ []) before ∙ ap (λ (d : CellPart). fresh_parts settings slot ++ d ∷ []) fresh ∙ ap (fresh_parts settings) (sym more)
 
 -- what holds at each place holds there with one item more
 each-push : {X : Type 0} (P : ℕ → X → Type 0) (xs : List X) (x : X) → P (length xs) x → ((k : ℕ) → IfSome (slice_get xs k) (P k)) → (k : ℕ) → IfSome (slice_get (xs ++ x ∷ []) k) (P k)
@@ -69,7 +75,7 @@ begins p contexts actors reader reader' items queued queued' count empty none fr
     let cell : reader'.cell ≡ fresh_reader (reader_of p) [] = same.0 ∙ ap (λ (r : ReaderPart). r.cell) fresh ∙ ap (fresh_reader (reader_of p)) none in (
       part-same reader' (fresh_handed p contexts) (same.1 ∙ ap (λ (r : ReaderPart). r.contexts) fresh) cell (emptied-boxes (suc contexts) reader.outboxes queued reader'.outboxes queued' gathers boxes),
       handed-over contexts 0 (suc contexts) (slots_only contexts (loads_below (length p.monitors))) reader.outboxes queued reader'.outboxes queued' gathers sent counted
-      ∙ ap (delivered contexts 0 (slots_only contexts (loads_below (length p.monitors)))) is,
+          ∙ ap (delivered contexts 0 (slots_only contexts (loads_below (length p.monitors)))) is,
     )
 
 -- ---- the parts

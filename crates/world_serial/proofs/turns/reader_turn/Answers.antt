@@ -1,4 +1,4 @@
-use Rattle.std.proofs.Common.{refl, sym, ◌∙◌, ap, subst}
+use Rattle.std.proofs.Common.{refl, ◌∙◌, ap}
 use Rattle.naive_meaning.specs.Actors.{reader_of, slots_of}
 use Rattle.world_serial.specs.Common.{ReaderPart}
 use Rattle.world_serial.specs.Serial.{cells_in}
