@@ -43,7 +43,7 @@ module _ (types : List EventShape) where
       subst (Fit types x) (sym shape.rolls-Text) (subst (λ v. Fit types v shape.Text) (sym is) (text_fits types bytes))
   layer_fits P inner (layer.Sequence element) x text (items, is, spells) =
       subst (Fit types x) (sym (shape.rolls-Sequence element)) (subst (λ v. Fit types v (shape.Sequence element)) (sym is)
-          (sequence_made types items element (list_each (P (form_of element)) (λ (v : Value). Fit types v element) (inner element) 91 93 items text spells)))
+      (sequence_made types items element (list_each (P (form_of element)) (λ (v : Value). Fit types v element) (inner element) 91 93 items text spells)))
   layer_fits P inner (layer.Dictionary key item) x text (entries, is, spells) =
       let K = λ (v : Value). Fit types v key in
       let V = λ (v : Value). Fit types v item in

@@ -1,7 +1,7 @@
 //! Queues that contracts see as the list of their items, oldest first.
 #![tactic(auto)]
 
-ghost use Rattle.std.specs.Prelude.{◌≡◌, [], ◌∷◌, ◌++◌, ◌<◌, ◌^◌, length, MatchOption, OnOk, OnErr};
+ghost use Rattle.std.specs.Prelude.{◌≡◌, [], ◌∷◌, ◌++◌, ◌<◌, ◌^◌, length, drop, MatchOption, OnOk, OnErr};
 
 use lists::{List, Memory};
 use std::alloc::Global;
@@ -57,6 +57,13 @@ impl<T> Queue<T> {
         ensures count { result ≡ length self.now }
     {
         self.items.len()
+    }
+
+    /// The oldest item; `None` exactly where the queue is empty.
+    pub fn first(&self) -> Option<&T>
+        ensures { MatchOption result (self.now ≡ []) (λ first. self.now ≡ first.now ∷ drop 1 self.now) }
+    {
+        self.items.front()
     }
 
     /// Takes the oldest item; `None` exactly where the queue is empty.

@@ -1,32 +1,44 @@
 -- The steps of the reader.
-use Rattle.std.specs.Prelude.{ℕ, List, [], ◌∷◌, Option, Some, None}
+use Rattle.std.specs.Prelude.{ℕ, List, [], ◌∷◌, ◌+◌, Bool, true, false}
 use Rattle.actor_theory.specs.declared.entry.Entry.{Entry}
-use Rattle.actor_theory.specs.Machine.{ReaderCell, reader_after_item}
+use Rattle.actor_theory.specs.Joined.{slots_only}
+use Rattle.actor_theory.specs.Machine.{ReaderCell, delivered, fresh_reader, loaded_queues, reader_after_entry, reader_after_item}
 use Rattle.typed_program.specs.declared.program.Program.{Program}
 use Rattle.record_book.specs.declared.cargo.Cargo.{Cargo}
 use Rattle.record_book.specs.declared.cargo.Cargo.TheVariants as cargo
 use Rattle.record_book.specs.declared.item.Item.{Item}
 use Rattle.record_book.specs.declared.item.Item.TheVariants as item
 use Rattle.record_book.specs.declared.record.ReaderRecord.{ReaderRecord}
-use Rattle.naive_meaning.specs.Actors.{reader_of}
+use Rattle.naive_meaning.specs.Actors.{ReaderState, reader_of, item_sends}
 
--- a reader of these items that has handled nothing
-abbrev pub fresh_reader : List Item → ReaderCell (Unit {0}) Cargo Item
-fresh_reader items = record { state = tt; number = 0; steps = []; rest = items }
+-- a reader among so many contexts, and for each actor what it has sent there and not handed over
+pub record ReaderPart : Type 0 where
+  pub contexts : ℕ
+  pub cell : ReaderCell ReaderState Cargo Item
+  pub outboxes : List (List (Entry Cargo))
 
--- what an event item sends, under a number
+-- it has handled nothing, and has sent the loads
+abbrev pub fresh_part : Program → ℕ → List Item → ReaderPart
+fresh_part p contexts items = record { contexts = contexts; cell = fresh_reader (reader_of p) items; outboxes = loaded_queues contexts (reader_of p) }
+
+-- the entry that an item sends, under a number
 abbrev pub item_entry : ℕ → ℕ → Item → Entry Cargo
 item_entry contexts number (item.Event channel event) = record { sender = contexts; stamp = number; cargo = cargo.Event event }
 
--- what taking the first of these items sends, and what it makes of the reader; where there is none, nothing
-abbrev pub first_entry : ℕ → ℕ → List Item → Option (Entry Cargo)
-first_entry contexts number [] = None
-first_entry contexts number (i ∷ rest) = Some (item_entry contexts number i)
+-- it has handled an entry
+abbrev pub part_after_entry : Program → ReaderPart → Entry Cargo → ReaderPart
+part_after_entry p r e = record r { cell = reader_after_entry (reader_of p) r.cell e }
 
-abbrev pub after_first : Program → ReaderCell (Unit {0}) Cargo Item → List Item → ReaderCell (Unit {0}) Cargo Item
-after_first p r [] = r
-after_first p r (i ∷ rest) = reader_after_item (reader_of p) r i rest
+-- it has taken the first of these items, where there is one
+abbrev pub part_after_first : Program → ReaderPart → List Item → ReaderPart
+part_after_first p r [] = r
+part_after_first p r (i ∷ rest) = record r { cell = reader_after_item (reader_of p) r.cell i rest; outboxes = delivered r.contexts (1 + r.cell.number) (slots_only r.contexts (item_sends i)) r.outboxes }
 
--- the record of a reader, with what is left for it
-abbrev pub record_of : ReaderCell (Unit {0}) Cargo Item → List (Entry Cargo) → ReaderRecord
-record_of r left = record { steps = r.steps; left = left }
+-- there is one
+abbrev pub has_first : List Item → Bool
+has_first [] = false
+has_first (i ∷ rest) = true
+
+-- its record, with what is left for it
+abbrev pub record_of : ReaderPart → List (Entry Cargo) → ReaderRecord
+record_of r left = record { steps = r.cell.steps; left = left }

@@ -1,20 +1,39 @@
 -- The parts fit, from the start on and behind each turn.
-use Rattle.world_serial.proofs.Common.{ℕ, zero, suc, List, [], Some, None, refl, sym, ◌∙◌, ap, subst, arith, map, length, get_or, slice_set, Value, Entry, Sent, number_after, stamped, Cell, ReaderCell, cell_after, empty_queues, fresh_cells, queue_at, Program, Cargo, Context, Item, Event, contexts_of, loads_below, ItemsFit, after_first, first_entry, item_entry, World, IsFitting, Rests, first_of, rest_of}
-use Rattle.std.proofs.Common.{◌≡◌, ◌+◌, ◌<◌, ◌≤◌, ◌∷◌, ◌++◌, ◌-◌, ◌^◌, All}
+use Rattle.world_serial.proofs.Common.{ℕ, zero, suc, List, [], Some, sym, ap, subst, arith, length, get_or, nat_lt, slice_set, Entry, Sent, stamped, queue_at, delivered, Cargo, first_of, rest_of}
+use Rattle.std.proofs.Common.{◌≡◌, ◌<◌, ◌≤◌, ◌∷◌, ◌++◌, All, filter}
 use Rattle.std.proofs.lemmas.Option.{slice_get-get_or}
-use Rattle.std.proofs.lemmas.List.Elements.{All-nil, All-cons, All-head, All-tail, All-get_or, All-set, All-push, All-map}
-use Rattle.epl_values.specs.declared.value.Value.{out-Value}
-use Rattle.actor_theory.specs.Machine.{queue_in}
-use Rattle.value_shapes.specs.Fits.{IsEvent}
+use Rattle.std.proofs.lemmas.List.Elements.{All-nil, All-cons, All-head, All-tail, All-get_or, All-set, All-push, All-map, All-append, All-filter}
+use Rattle.actor_theory.specs.Language.{is_for, mail}
+use Rattle.actor_theory.specs.Joined.{slots_only}
+use Rattle.actor_theory.specs.Machine.{arrived, empty_queues, queue_in, loaded_queues}
+use Rattle.record_book.specs.Fits.{CargoFits, EntriesFit, EntryFits, ItemFits, ItemsFit}
 use Rattle.record_book.specs.declared.cargo.Cargo.TheVariants as cargo
-use Rattle.context_meaning.specs.Contexts.{fresh}
-use Rattle.context_meaning.specs.Fits.{ContextFits, InstanceFits, ListenerFits, WaitingFits}
-use Rattle.record_book.specs.Fits.{CargoFits, EntriesFit, EntryFits, ItemFits}
-use Rattle.world_serial.specs.Fitting.{CellFits, Fitting}
-use Rattle.world_serial.proofs.Resting.{handle_rests}
-use Rattle.world_serial.proofs.TurnLemmas.{Standing, some-first, some-item, waiting-same}
+use Rattle.record_book.specs.declared.item.Item.TheVariants.{Event}
+use Rattle.naive_meaning.specs.Actors.{item_sends, loads_below, reader_of}
+use Rattle.context_core.specs.Cells.{Rests}
+use Rattle.world_serial.specs.Common.{Program, Item, CellPart}
+use Rattle.world_serial.specs.Fitting.{Fitting}
+use Rattle.world_serial.proofs.TurnLemmas.{some-first}
+
+-- what a send carries fits
+abbrev pub SendFits : Program → Sent Cargo → Type 0
+SendFits p x = CargoFits p x.cargo
 
 -- ---- queues
+
+-- what is sent under a number
+mail-fits : (p : Program) (s n k : ℕ) (sent : List (Sent Cargo)) → All (SendFits p) sent → EntriesFit p (mail s n k sent)
+mail-fits p s n k sent fit = All-map (EntryFits p) (stamped s n) (filter (is_for k) sent) (All-filter (is_for k) (SendFits p) sent fit)
+
+-- the queues that it arrives at
+arrived-fits : (p : Program) (s n k : ℕ) (sent : List (Sent Cargo)) (queued : List (List (Entry Cargo))) → All (SendFits p) sent → All (EntriesFit p) queued → All (EntriesFit p) (arrived s n sent k queued)
+arrived-fits p s n k sent [] fit h = All-nil (EntriesFit p)
+arrived-fits p s n k sent (q ∷ qs) fit h =
+    All-cons (EntriesFit p) (q ++ mail s n k sent) (arrived s n sent (suc k) qs) (All-append (EntryFits p) q (mail s n k sent) (All-head (EntriesFit p) q qs h) (mail-fits p s n k sent fit))
+    (arrived-fits p s n (suc k) sent qs fit (All-tail (EntriesFit p) q qs h))
+
+pub delivered-fits : (p : Program) (s n : ℕ) (sent : List (Sent Cargo)) (queued queued' : List (List (Entry Cargo))) → queued' ≡ delivered s n sent queued → All (SendFits p) sent → All (EntriesFit p) queued → All (EntriesFit p) queued'
+delivered-fits p s n sent queued queued' is fit h = subst (All (EntriesFit p)) (sym is) (arrived-fits p s n 0 sent queued fit h)
 
 -- the entries behind the oldest
 rest-fits : (p : Program) (q : List (Entry Cargo)) → EntriesFit p q → EntriesFit p (rest_of q)
@@ -28,154 +47,75 @@ queue-fits p queued k lt fit =
     subst (EntriesFit p) (sym is) (All-get_or (EntriesFit p) queued k [] lt fit)
 
 -- the oldest entry of a queue
-pub oldest-fits : (p : Program) (cells : List (Cell Context Cargo)) (rest : List Item) (queued : List (List (Entry Cargo))) (k : ℕ) (e : Entry Cargo) → k < length queued → Some e ≡ first_of (queue_at queued k) → Fitting p cells rest queued → EntryFits p e
-oldest-fits p cells rest queued k e lt first h =
-    let is = some-first (queue_at queued k) e (sym first) in
-    All-head (EntryFits p) e (rest_of (queue_at queued k)) (subst (EntriesFit p) is (queue-fits p queued k lt h.queued_fit))
+pub oldest-fits : (p : Program) (queued : List (List (Entry Cargo))) (k : ℕ) (e : Entry Cargo) → k < length queued → Some e ≡ first_of (queue_at queued k) → All (EntriesFit p) queued → EntryFits p e
+oldest-fits p queued k e lt first fit = All-head (EntryFits p) e (rest_of (queue_at queued k)) (subst (EntriesFit p) (some-first (queue_at queued k) e first) (queue-fits p queued k lt fit))
 
 -- where it is taken
-pub taken-fits : (p : Program) (cells : List (Cell Context Cargo)) (rest : List Item) (queued queued' : List (List (Entry Cargo))) (k : ℕ) → k < length queued → queued' ≡ slice_set queued k (rest_of (queue_at queued k)) → Fitting p cells rest queued → Fitting p cells rest queued'
-taken-fits p cells rest queued queued' k lt is h = record {
-  cells_fit = h.cells_fit;
+pub taken-fits : (p : Program) (queued queued' : List (List (Entry Cargo))) (k : ℕ) → k < length queued → queued' ≡ slice_set queued k (rest_of (queue_at queued k)) → All (EntriesFit p) queued → All (EntriesFit p) queued'
+taken-fits p queued queued' k lt is fit = subst (All (EntriesFit p)) (sym is) (All-set (EntriesFit p) queued k (rest_of (queue_at queued k)) (rest-fits p (queue_at queued k) (queue-fits p queued k lt fit)) fit)
+
+-- ---- turns
+
+-- a cell is put back, and what it sends has arrived; it sends nothing
+pub turned-fits : (p : Program) (s n slot k : ℕ) (cells : List CellPart) (c' : CellPart) (rest : List Item) (queued queued' queued'' : List (List (Entry Cargo))) → Fitting p cells rest queued → Rests p c' → k < length queued
+    → queued' ≡ slice_set queued k (rest_of (queue_at queued k)) → queued'' ≡ delivered s n [] queued' → Fitting p (slice_set cells slot c') rest queued''
+turned-fits p s n slot k cells c' rest queued queued' queued'' h rests lt taken sent = record {
+  cells_fit = All-set (Rests p) cells slot c' rests h.cells_fit;
   items_fit = h.items_fit;
-  queued_fit = subst (All (EntriesFit p)) (sym is) (All-set (EntriesFit p) queued k (rest_of (queue_at queued k)) (rest-fits p (queue_at queued k) (queue-fits p queued k lt h.queued_fit)) h.queued_fit);
+  queued_fit = delivered-fits p s n [] queued' queued'' sent (All-nil (SendFits p)) (taken-fits p queued queued' k lt taken h.queued_fit);
 }
 
--- ---- cells
-
--- a cell of these
-pub cell-fits : (p : Program) (cells : List (Cell Context Cargo)) (rest : List Item) (queued : List (List (Entry Cargo))) (k : ℕ) (c : Cell Context Cargo) → k < length cells → c ≡ get_or cells k c → Fitting p cells rest queued → CellFits p c
-cell-fits p cells rest queued k c lt read h = subst (CellFits p) (sym read) (All-get_or (CellFits p) cells k c lt h.cells_fit)
-
--- one that has handled an entry
-pub after-fits : (p : Program) (contexts fuel : ℕ) (c c' : Cell Context Cargo) (e : Entry Cargo) → CellFits p c → ContextFits p c'.state → c' ≡ cell_after (contexts_of p contexts fuel) c e → CellFits p c'
-after-fits p contexts fuel c c' e h fits is = record {
-  fits = fits;
-  rests = subst Rests (sym (ap (λ (x : Cell Context Cargo). x.state) is)) (handle_rests p c.state (number_after c.number e) e.cargo h.rests);
+-- the reader has handled an entry
+pub entry-fits : (p : Program) (k : ℕ) (cells : List CellPart) (rest rest' : List Item) (queued queued' : List (List (Entry Cargo))) → Fitting p cells rest queued → k < length queued → queued' ≡ slice_set queued k (rest_of (queue_at queued k)) → rest' ≡ rest → Fitting p cells rest' queued'
+entry-fits p k cells rest rest' queued queued' h lt taken same = record {
+  cells_fit = h.cells_fit;
+  items_fit = subst (ItemsFit p) (sym same) h.items_fit;
+  queued_fit = taken-fits p queued queued' k lt taken h.queued_fit;
 }
 
--- where it is put back
-pub handled-fits : (p : Program) (cells : List (Cell Context Cargo)) (rest : List Item) (queued : List (List (Entry Cargo))) (k : ℕ) (c : Cell Context Cargo) → CellFits p c → Fitting p cells rest queued → Fitting p (slice_set cells k c) rest queued
-handled-fits p cells rest queued k c fits h = record { cells_fit = All-set (CellFits p) cells k c fits h.cells_fit; items_fit = h.items_fit; queued_fit = h.queued_fit }
-
--- ---- turns of a slot
-
--- the cell whose turn it is
-pub turning-cell : (p : Program) (contexts fuel slot : ℕ) (cells : List (Cell Context Cargo)) (reader : ReaderCell (Unit {0}) Cargo Item) (queued : List (List (Entry Cargo))) (c : Cell Context Cargo) → slot < contexts → Standing p contexts fuel cells reader queued → c ≡ get_or cells slot c
-    → Fitting p cells reader.rest queued → CellFits p c
-turning-cell p contexts fuel slot cells reader queued c lt h read fit =
-    let count = h.cells_count in
-    let low : slot < length cells = omega (arith, lt, count) in
-    cell-fits p cells reader.rest queued slot c low read fit
-
--- the entry that it handles
-pub turning-entry : (p : Program) (contexts fuel slot : ℕ) (cells : List (Cell Context Cargo)) (reader : ReaderCell (Unit {0}) Cargo Item) (queued : List (List (Entry Cargo))) (e : Entry Cargo) → slot < contexts → Standing p contexts fuel cells reader queued → Some e ≡ first_of (queue_at queued slot)
-    → Fitting p cells reader.rest queued → EntryFits p e
-turning-entry p contexts fuel slot cells reader queued e lt h first fit =
-    let count = h.queues_count in
-    let low : slot < length queued = omega (arith, lt, count) in
-    oldest-fits p cells reader.rest queued slot e low first fit
-
--- nothing was there, or an entry was taken
-pub idle-fits : (p : Program) (contexts fuel slot : ℕ) (cells : List (Cell Context Cargo)) (reader : ReaderCell (Unit {0}) Cargo Item) (queued queued' : List (List (Entry Cargo))) → slot < contexts → Standing p contexts fuel cells reader queued → queued' ≡ slice_set queued slot (rest_of (queue_at queued slot))
-    → Fitting p cells reader.rest queued → Fitting p cells reader.rest queued'
-idle-fits p contexts fuel slot cells reader queued queued' lt h rest fit =
-    let count = h.queues_count in
-    let low : slot < length queued = omega (arith, lt, count) in
-    taken-fits p cells reader.rest queued queued' slot low rest fit
-
--- an entry was handled
-pub turned-fits : (p : Program) (contexts fuel slot : ℕ) (cells : List (Cell Context Cargo)) (reader : ReaderCell (Unit {0}) Cargo Item) (queued queued' : List (List (Entry Cargo))) (c c' : Cell Context Cargo) (e : Entry Cargo) → slot < contexts → Standing p contexts fuel cells reader queued
-    → c ≡ get_or cells slot c → queued' ≡ slice_set queued slot (rest_of (queue_at queued slot)) → c' ≡ cell_after (contexts_of p contexts fuel) c e → ContextFits p c'.state → Fitting p cells reader.rest queued → Fitting p (slice_set cells slot c') reader.rest queued'
-turned-fits p contexts fuel slot cells reader queued queued' c c' e lt h read rest after fits fit =
-    handled-fits p cells reader.rest queued' slot c' (after-fits p contexts fuel c c' e (turning-cell p contexts fuel slot cells reader queued c lt h read fit) fits after) (idle-fits p contexts fuel slot cells reader queued queued' lt h rest fit)
-
--- ---- items
-
--- what an item sends
-item-fits : (p : Program) (contexts n : ℕ) (i : Item) → ItemFits p i → EntryFits p (item_entry contexts n i)
-item-fits p contexts n (Event channel event) h = h
-
--- the items behind the first
-left-fits : (p : Program) (r : ReaderCell (Unit {0}) Cargo Item) (items : List Item) → ItemsFit p r.rest → ItemsFit p items → ItemsFit p (after_first p r items).rest
-left-fits p r [] h fit = h
-left-fits p r (i ∷ is) h fit = All-tail (ItemFits p) i is fit
-
--- other items to come
-pub reader-fits : (p : Program) (cells : List (Cell Context Cargo)) (rest rest' : List Item) (queued : List (List (Entry Cargo))) → rest' ≡ rest → Fitting p cells rest queued → Fitting p cells rest' queued
-reader-fits p cells rest rest' queued is h = record { cells_fit = h.cells_fit; items_fit = subst (ItemsFit p) (sym is) h.items_fit; queued_fit = h.queued_fit }
+-- what an item sends, where it goes to a slot
+item-sends_fit : (p : Program) (contexts : ℕ) (i : Item) → ItemFits p i → All (SendFits p) (slots_only contexts (item_sends i))
+item-sends_fit p contexts (Event channel event) fit =
+    All-filter (λ (x : Sent Cargo). nat_lt x.target contexts) (SendFits p) (item_sends (Event channel event)) (All-cons (SendFits p) (record { target = 0; cargo = cargo.Event event }) [] fit (All-nil (SendFits p)))
 
 -- the reader has taken its first item
-pub first-fits : (p : Program) (cells : List (Cell Context Cargo)) (reader reader' : ReaderCell (Unit {0}) Cargo Item) (queued : List (List (Entry Cargo))) → reader' ≡ after_first p reader reader.rest → Fitting p cells reader.rest queued → Fitting p cells reader'.rest queued
-first-fits p cells reader reader' queued is h = record {
+pub item-fits : (p : Program) (s n contexts : ℕ) (cells : List CellPart) (i : Item) (rest rest' : List Item) (queued queued' : List (List (Entry Cargo))) → Fitting p cells (i ∷ rest) queued → queued' ≡ delivered s n (slots_only contexts (item_sends i)) queued → rest' ≡ rest
+    → Fitting p cells rest' queued'
+item-fits p s n contexts cells i rest rest' queued queued' h sent same = record {
   cells_fit = h.cells_fit;
-  items_fit = subst (λ (r : ReaderCell (Unit {0}) Cargo Item). ItemsFit p r.rest) (sym is) (left-fits p reader reader.rest h.items_fit h.items_fit);
-  queued_fit = h.queued_fit;
+  items_fit = subst (ItemsFit p) (sym same) (All-tail (ItemFits p) i rest h.items_fit);
+  queued_fit = delivered-fits p s n (slots_only contexts (item_sends i)) queued queued' sent (item-sends_fit p contexts i (All-head (ItemFits p) i rest h.items_fit)) h.queued_fit;
 }
-
--- an entry of its own queue may be taken
-pub reader-taken : (p : Program) (contexts : ℕ) (cells : List (Cell Context Cargo)) (rest : List Item) (queued queued' : List (List (Entry Cargo))) → length queued ≡ contexts + 1 → queued' ≡ slice_set queued contexts (rest_of (queue_at queued contexts)) → Fitting p cells rest queued → Fitting p cells rest queued'
-reader-taken p contexts cells rest queued queued' count is h =
-    let low : contexts < length queued = omega (arith, count) in
-    taken-fits p cells rest queued queued' contexts low is h
-
--- and what it sends waits for the main context
-pub sent-fits : (p : Program) (contexts : ℕ) (cells : List (Cell Context Cargo)) (reader : ReaderCell (Unit {0}) Cargo Item) (rest : List Item) (queued queued' queued'' : List (List (Entry Cargo))) (q q' : List (Entry Cargo)) (e : Entry Cargo) → length queued ≡ contexts + 1
-    → None ≡ first_of (queue_at queued contexts) → queued' ≡ slice_set queued contexts (rest_of (queue_at queued contexts)) → ItemsFit p reader.rest → Some e ≡ first_entry contexts (1 + reader.number) reader.rest → q ≡ get_or queued' 0 q → q' ≡ q ++ e ∷ []
-    → queued'' ≡ slice_set queued' 0 q' → Fitting p cells rest queued' → Fitting p cells rest queued''
-sent-fits p contexts cells reader rest queued queued' queued'' q q' e count first taken_is items sent read pushed put h =
-    let same = ap length (waiting-same contexts queued queued' count first taken_is) in
-    let low : 0 < length queued' = omega (arith, same, count) in
-    let taken = some-item p contexts (1 + reader.number) reader reader.rest e sent in
-    let fits : EntryFits p e = subst (EntryFits p) (sym taken.3) (item-fits p contexts (1 + reader.number) taken.0 (All-head (ItemFits p) taken.0 taken.1 (subst (ItemsFit p) taken.2 items))) in
-    let front : EntriesFit p q = subst (EntriesFit p) (sym read) (All-get_or (EntriesFit p) queued' 0 q low h.queued_fit) in
-    let more : EntriesFit p q' = subst (EntriesFit p) (sym pushed) (All-push (EntryFits p) q e front fits) in
-    record { cells_fit = h.cells_fit; items_fit = h.items_fit; queued_fit = subst (All (EntriesFit p)) (sym put) (All-set (EntriesFit p) queued' 0 q' more h.queued_fit) }
 
 -- ---- the start
 
--- a context that has handled nothing
-fresh-context_fits : (p : Program) (slot slots fuel : ℕ) → ContextFits p (fresh slot slots fuel)
-fresh-context_fits p slot slots fuel = record { instances = All-nil (InstanceFits p 0); listeners = All-nil (ListenerFits p 0 []); row = All-nil (WaitingFits p); front = All-nil (WaitingFits p) }
-
-fresh-cells_fit : (p : Program) (contexts fuel n : ℕ) → fuel < 2 ^ 64 - 1 → All (CellFits p) (fresh_cells (contexts_of p contexts fuel) n)
-fresh-cells_fit p contexts fuel zero small = All-nil (CellFits p)
-fresh-cells_fit p contexts fuel (suc n) small =
-    All-push (CellFits p) (fresh_cells (contexts_of p contexts fuel) n) (record { state = fresh n contexts fuel; number = 0; log = [] }) (fresh-cells_fit p contexts fuel n small)
-    (record { fits = fresh-context_fits p n contexts fuel; rests = record { row = refl; small = small } })
-
 -- loads of monitors that are there
-loads-fit : (p : Program) (n : ℕ) → n ≤ length p.monitors → All (λ (x : Sent Cargo). CargoFits p x.cargo) (loads_below n)
-loads-fit p zero le = All-nil (λ (x : Sent Cargo). CargoFits p x.cargo)
+loads-fit : (p : Program) (n : ℕ) → n ≤ length p.monitors → All (SendFits p) (loads_below n)
+loads-fit p zero le = All-nil (SendFits p)
 loads-fit p (suc n) le =
     let before : n ≤ length p.monitors = omega arith in
     let there : n < length p.monitors = omega arith in
-    All-push (λ (x : Sent Cargo). CargoFits p x.cargo) (loads_below n) (record { target = 0; cargo = cargo.Load n }) (loads-fit p n before) there
+    All-push (SendFits p) (loads_below n) (record { target = 0; cargo = cargo.Load n }) (loads-fit p n before) there
 
 empty-fit : (p : Program) (n : ℕ) → All (EntriesFit p) (empty_queues n)
 empty-fit p zero = All-nil (EntriesFit p)
 empty-fit p (suc n) = All-cons (EntriesFit p) [] (empty_queues n) (All-nil (EntryFits p)) (empty-fit p n)
 
+-- one more cell
+pub cells-more : (p : Program) (cells cells' : List CellPart) (c : CellPart) → cells' ≡ cells ++ c ∷ [] → All (Rests p) cells → Rests p c → All (Rests p) cells'
+cells-more p cells cells' c pushed fit rests = subst (All (Rests p)) (sym pushed) (All-push (Rests p) cells c fit rests)
+
 -- the parts with the loads queued
-pub begun-fits : (p : Program) (contexts fuel actors n : ℕ) (cells : List (Cell Context Cargo)) (rest : List Item) (queued queued' : List (List (Entry Cargo))) (q q' : List (Entry Cargo)) → fuel < 2 ^ 64 - 1 → cells ≡ fresh_cells (contexts_of p contexts fuel) contexts → rest ≡ []
-    → actors ≡ contexts + 1 → queued ≡ empty_queues actors → q ≡ get_or queued 0 q → n ≡ length p.monitors → q' ≡ q ++ map (stamped contexts 0) (loads_below n) → queued' ≡ slice_set queued 0 q' → Fitting p cells rest queued'
-begun-fits p contexts fuel actors n cells rest queued queued' q q' small cells_are none_left count empty read monitors pushed put =
-    let more : contexts + 1 ≡ suc contexts = omega arith in
-    let same : queued ≡ [] ∷ empty_queues contexts = empty ∙ ap (empty_queues {C = Cargo}) (count ∙ more) in
-    let none : q ≡ [] = read ∙ ap (λ qs. get_or qs 0 q) same in
-    let loads : q' ≡ map (stamped contexts 0) (loads_below n) = pushed ∙ ap (λ (r : List (Entry Cargo)). r ++ map (stamped contexts 0) (loads_below n)) none in
-    let le : n ≤ length p.monitors = omega (arith, monitors) in
-    let fits : EntriesFit p q' = subst (EntriesFit p) (sym loads) (All-map (EntryFits p) (stamped contexts 0) (loads_below n) (loads-fit p n le)) in
+pub begun-fits : (p : Program) (contexts : ℕ) (cells : List CellPart) (rest : List Item) (queued : List (List (Entry Cargo))) → All (Rests p) cells → rest ≡ [] → queued ≡ loaded_queues contexts (reader_of p) → Fitting p cells rest queued
+begun-fits p contexts cells rest queued fit none loaded =
+    let le : length p.monitors ≤ length p.monitors = omega arith in
+    let sent : All (SendFits p) (slots_only contexts (loads_below (length p.monitors))) = All-filter (λ (x : Sent Cargo). nat_lt x.target contexts) (SendFits p) (loads_below (length p.monitors)) (loads-fit p (length p.monitors) le) in
     record {
-      cells_fit = subst (All (CellFits p)) (sym cells_are) (fresh-cells_fit p contexts fuel contexts small);
-      items_fit = subst (ItemsFit p) (sym none_left) (All-nil (ItemFits p));
-      queued_fit = subst (All (EntriesFit p)) (sym put) (All-set (EntriesFit p) queued 0 q' fits (subst (All (EntriesFit p)) (sym empty) (empty-fit p actors)));
+      cells_fit = fit;
+      items_fit = subst (ItemsFit p) (sym none) (All-nil (ItemFits p));
+      queued_fit = delivered-fits p contexts 0 (slots_only contexts (loads_below (length p.monitors))) (empty_queues (suc contexts)) queued loaded sent (empty-fit p (suc contexts));
     }
 
--- after boot the items are given
-pub given-fits : (p : Program) (last given : World) (items : List Item) → IsFitting p last → given.cells.items ≡ last.cells.items → given.reader.rest ≡ items → given.queued.items ≡ last.queued.items → ItemsFit p items → IsFitting p given
-given-fits p last given items h cells rest queued fit = record {
-  cells_fit = subst (All (CellFits p)) (sym cells) h.cells_fit;
-  items_fit = subst (ItemsFit p) (sym rest) fit;
-  queued_fit = subst (All (EntriesFit p)) (sym queued) h.queued_fit;
-}
+-- other items to come
+pub given-fits : (p : Program) (cells : List CellPart) (rest items : List Item) (queued : List (List (Entry Cargo))) → Fitting p cells rest queued → ItemsFit p items → Fitting p cells items queued
+given-fits p cells rest items queued h fit = record { cells_fit = h.cells_fit; items_fit = fit; queued_fit = h.queued_fit }

@@ -1,8 +1,9 @@
 mod Common
-pub mod Sends
+pub mod Delivery
 pub mod TurnLemmas
-pub mod RoundLemmas
-pub mod StartLemmas
-pub mod EndLemmas
-pub mod Resting
 pub mod FittingLemmas
+pub mod StandLemmas
+pub mod ItemLemmas
+pub mod StartLemmas
+pub mod RoundLemmas
+pub mod EndLemmas

@@ -18,16 +18,16 @@ fn round(
 ) -> Result<bool, Memory>
     requires typed { Typed program.now }
     requires some { 0 < settings.contexts }
-    requires standing { IsStanding program.now settings.contexts settings.fuel world.old }
+    requires standing { IsStanding program.now settings world.old }
     requires fitting { IsFitting program.now world.old }
-    ensures { IfOk result (λ handled. RoundsOn program.now settings.contexts settings.fuel takes world.old world.new handled) }
+    ensures { IfOk result (λ handled. RoundsOn program.now settings takes world.old world.new handled) }
 {
     let mut handled = false;
     'slots: for slot in 0..settings.contexts {
         let found = slot_turn(world, program, settings, slot)?;
         handled |= found;
     }
-    let found = reader_turn(world, settings.contexts, takes)?;
+    let found = reader_turn(world, program, settings, takes)?;
     Ok(handled | found)
 }
 
@@ -40,9 +40,9 @@ pub fn run_rounds(
 ) -> Result<(), Memory>
     requires typed { Typed program.now }
     requires some { 0 < settings.contexts }
-    requires standing { IsStanding program.now settings.contexts settings.fuel world.old }
+    requires standing { IsStanding program.now settings world.old }
     requires fitting { IsFitting program.now world.old }
-    ensures { OnOk result (FinishesOn program.now settings.contexts settings.fuel takes world.old world.new) }
+    ensures { OnOk result (FinishesOn program.now settings takes world.old world.new) }
 {
     'rounds: loop {
         if !round(world, program, settings, takes)? {

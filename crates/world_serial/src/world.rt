@@ -1,6 +1,5 @@
 use context_core::Cell;
-use queues::Queue;
-use record_book::Entry;
+use entry_queues::Queued;
 use source_actor::Reader;
 
 /// What runs: the contexts by slot, the reader, and for each of these actors the queue of what was sent to it and not yet
@@ -9,5 +8,5 @@ use source_actor::Reader;
 pub struct World {
     pub cells: Vec<Cell>,
     pub reader: Reader,
-    pub queued: Vec<Queue<Entry>>,
+    pub queued: Queued,
 }

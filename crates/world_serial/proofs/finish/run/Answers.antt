@@ -1,5 +1,9 @@
-use Rattle.world_serial.proofs.EndLemmas.{ends-scheduled, scheduled-faithful}
+use Rattle.std.proofs.Common.{true}
+use Rattle.world_serial.proofs.EndLemmas.{cells-counted, ends-scheduled, scheduled-faithful}
 use Rattle.world_serial.proofs.finish.run.Goals as goal
+
+pub into_record-requires-clause-cells : goal.into_record-requires-clause-cells
+into_record-requires-clause-cells c = cells-counted c.args.program.now c.args.settings true c.in_ok-world.world c.run_rounds.new.world c.in_ok-run_rounds.ensures
 
 pub returns-clause-scheduled : goal.returns-clause-scheduled
 returns-clause-scheduled c =

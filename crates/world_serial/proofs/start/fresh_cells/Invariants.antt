@@ -1,8 +1,11 @@
-use Rattle.std.proofs.Common.{◌≡◌}
-use Rattle.actor_theory.specs.Machine.{fresh_cells}
+use Rattle.std.proofs.Common.{◌≡◌, All}
 use Rattle.typed_program.specs.declared.program.Program.{Program}
-use Rattle.naive_meaning.specs.Actors.{contexts_of}
+use Rattle.context_core.specs.Cells.{Rests}
+use Rattle.world_serial.specs.Serial.{fresh_parts}
 use Rattle.world_serial.proofs.start.fresh_cells.Given as goal
 
 abbrev pub invariant-slots : goal.invariant-slots
-invariant-slots l = (p : Program) → l.cells.items ≡ fresh_cells (contexts_of p l.settings.contexts l.settings.fuel) l.slot
+invariant-slots l = record {
+  fresh : l.cells.items ≡ fresh_parts l.settings l.slot;
+  rests : (p : Program) → All (Rests p) l.cells.items;
+}

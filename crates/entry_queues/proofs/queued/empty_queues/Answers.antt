@@ -2,8 +2,8 @@ use Rattle.std.proofs.Common.{◌≡◌, ◌∙◌, ◌++◌, ◌∷◌, [], Lis
 use Rattle.actor_theory.specs.declared.entry.Entry.{Entry}
 use Rattle.actor_theory.specs.Machine.{empty_queues}
 use Rattle.record_book.specs.declared.cargo.Cargo.{Cargo}
-use Rattle.world_serial.proofs.StartLemmas.{empty-more}
-use Rattle.world_serial.proofs.start.empty_queues.Goals as goal
+use Rattle.entry_queues.proofs.Lemmas.{empty-more}
+use Rattle.entry_queues.proofs.queued.empty_queues.Goals as goal
 
 pub actors-preserved : goal.actors-preserved
 actors-preserved c =
