@@ -6,18 +6,13 @@ use Rattle.std.proofs.lemmas.List.Elements.{All-nil, All-cons, All-head, All-tai
 use Rattle.actor_theory.specs.Language.{is_for, mail}
 use Rattle.actor_theory.specs.Joined.{slots_only}
 use Rattle.actor_theory.specs.Machine.{arrived, empty_queues, queue_in, loaded_queues}
-use Rattle.record_book.specs.Fits.{CargoFits, EntriesFit, EntryFits, ItemFits, ItemsFit}
-use Rattle.record_book.specs.declared.cargo.Cargo.TheVariants as cargo
-use Rattle.record_book.specs.declared.item.Item.TheVariants.{Event}
+use Rattle.record_book.specs.Fits.{EntriesFit, EntryFits, ItemFits, ItemsFit}
 use Rattle.naive_meaning.specs.Actors.{item_sends, loads_below, reader_of}
 use Rattle.context_core.specs.Cells.{Rests}
 use Rattle.world_serial.specs.Common.{Program, Item, CellPart}
 use Rattle.world_serial.specs.Fitting.{Fitting}
+use Rattle.world_serial.proofs.Sending.{SendFits, item-sends_fit, loads-fit}
 use Rattle.world_serial.proofs.TurnLemmas.{some-first}
-
--- what a send carries fits
-abbrev pub SendFits : Program → Sent Cargo → Type 0
-SendFits p x = CargoFits p x.cargo
 
 -- ---- queues
 
@@ -56,13 +51,13 @@ taken-fits p queued queued' k lt is fit = subst (All (EntriesFit p)) (sym is) (A
 
 -- ---- turns
 
--- a cell is put back, and what it sends has arrived; it sends nothing
-pub turned-fits : (p : Program) (s n slot k : ℕ) (cells : List CellPart) (c' : CellPart) (rest : List Item) (queued queued' queued'' : List (List (Entry Cargo))) → Fitting p cells rest queued → Rests p c' → k < length queued
-    → queued' ≡ slice_set queued k (rest_of (queue_at queued k)) → queued'' ≡ delivered s n [] queued' → Fitting p (slice_set cells slot c') rest queued''
-turned-fits p s n slot k cells c' rest queued queued' queued'' h rests lt taken sent = record {
+-- a cell is put back, and what it sends has arrived
+pub turned-fits : (p : Program) (s n : ℕ) (sent : List (Sent Cargo)) (slot k : ℕ) (cells : List CellPart) (c' : CellPart) (rest : List Item) (queued queued' queued'' : List (List (Entry Cargo))) → Fitting p cells rest queued → Rests p c' → k < length queued
+    → queued' ≡ slice_set queued k (rest_of (queue_at queued k)) → queued'' ≡ delivered s n sent queued' → All (SendFits p) sent → Fitting p (slice_set cells slot c') rest queued''
+turned-fits p s n sent slot k cells c' rest queued queued' queued'' h rests lt taken arrived fit = record {
   cells_fit = All-set (Rests p) cells slot c' rests h.cells_fit;
   items_fit = h.items_fit;
-  queued_fit = delivered-fits p s n [] queued' queued'' sent (All-nil (SendFits p)) (taken-fits p queued queued' k lt taken h.queued_fit);
+  queued_fit = delivered-fits p s n sent queued' queued'' arrived fit (taken-fits p queued queued' k lt taken h.queued_fit);
 }
 
 -- the reader has handled an entry
@@ -72,11 +67,6 @@ entry-fits p k cells rest rest' queued queued' h lt taken same = record {
   items_fit = subst (ItemsFit p) (sym same) h.items_fit;
   queued_fit = taken-fits p queued queued' k lt taken h.queued_fit;
 }
-
--- what an item sends, where it goes to a slot
-item-sends_fit : (p : Program) (contexts : ℕ) (i : Item) → ItemFits p i → All (SendFits p) (slots_only contexts (item_sends i))
-item-sends_fit p contexts (Event channel event) fit =
-    All-filter (λ (x : Sent Cargo). nat_lt x.target contexts) (SendFits p) (item_sends (Event channel event)) (All-cons (SendFits p) (record { target = 0; cargo = cargo.Event event }) [] fit (All-nil (SendFits p)))
 
 -- the reader has taken its first item
 pub item-fits : (p : Program) (s n contexts : ℕ) (cells : List CellPart) (i : Item) (rest rest' : List Item) (queued queued' : List (List (Entry Cargo))) → Fitting p cells (i ∷ rest) queued → queued' ≡ delivered s n (slots_only contexts (item_sends i)) queued → rest' ≡ rest
@@ -88,14 +78,6 @@ item-fits p s n contexts cells i rest rest' queued queued' h sent same = record 
 }
 
 -- ---- the start
-
--- loads of monitors that are there
-loads-fit : (p : Program) (n : ℕ) → n ≤ length p.monitors → All (SendFits p) (loads_below n)
-loads-fit p zero le = All-nil (SendFits p)
-loads-fit p (suc n) le =
-    let before : n ≤ length p.monitors = omega arith in
-    let there : n < length p.monitors = omega arith in
-    All-push (SendFits p) (loads_below n) (record { target = 0; cargo = cargo.Load n }) (loads-fit p n before) there
 
 empty-fit : (p : Program) (n : ℕ) → All (EntriesFit p) (empty_queues n)
 empty-fit p zero = All-nil (EntriesFit p)

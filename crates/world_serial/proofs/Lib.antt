@@ -1,6 +1,7 @@
 mod Common
 pub mod Delivery
 pub mod TurnLemmas
+pub mod Sending
 pub mod FittingLemmas
 pub mod StandLemmas
 pub mod ItemLemmas

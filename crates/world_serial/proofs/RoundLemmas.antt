@@ -1,49 +1,32 @@
 -- Rounds of the parts.
-use Rattle.world_serial.proofs.Common.{ℕ, suc, List, [], Bool, true, false, cond, nat_lt, sym, ◌∙◌, ap, subst, arith, Sent, Cargo}
+use Rattle.world_serial.proofs.Common.{ℕ, suc, Bool, false, sym, ◌∙◌, ap, subst, arith, Cargo}
 use Rattle.world_serial.specs.Common.{Program, Item, Settings, ReaderPart}
 use Rattle.world_serial.specs.declared.world.World.{World}
 use Rattle.world_serial.specs.Fitting.{IsFitting}
-use Rattle.record_book.specs.declared.item.Item.TheVariants.{Event}
-use Rattle.naive_meaning.specs.Actors.{slots_of, reader_of, actors_of, item_sends}
-use Rattle.std.proofs.Common.{◌≡◌, ◌+◌, ◌≤◌, ◌∷◌, ◌⊎◌, ◌||◌, filter}
+use Rattle.naive_meaning.specs.Actors.{slots_of, reader_of, actors_of}
+use Rattle.std.proofs.Common.{◌≡◌, ◌+◌, ◌≤◌, ◌⊎◌, ◌||◌}
 use Rattle.actor_theory.specs.World.{World as Moment, IsQuiet}
-use Rattle.actor_theory.specs.Potential.{IsMeasure, total, entry_cost}
+use Rattle.actor_theory.specs.Potential.{IsMeasure}
 use Rattle.actor_theory.specs.Measure.{IsJoinedLog}
 use Rattle.actor_theory.specs.Rounding.{Rounding, RoundsSoFar}
-use Rattle.actor_theory.proofs.Measuring.{joined-measure}
 use Rattle.actor_theory.proofs.Rounding.{rounding-all, rounds-more, rounds-all}
 use Rattle.actor_theory.proofs.Looping.{machine-rounding_more}
-use Rattle.record_book.specs.declared.cargo.Cargo.TheVariants as cargo
 use Rattle.world_serial.specs.Serial.{weight, cost, cells_in, moment_of, IsStanding, TurnsOn, RoundsOn, FinishesOn}
 
--- an item sends one entry at most
-one-at-most : (contexts number : ℕ) (i : Item) → total (entry_cost {C = Cargo} (λ d e. 1) contexts number) (filter (λ x. nat_lt x.target contexts) (item_sends i)) ≤ 1
-one-at-most contexts number (Event channel event) = go (nat_lt 0 contexts)
-  where
-    go : (b : Bool) → total (entry_cost {C = Cargo} (λ d e. 1) contexts number) (cond {A = List (Sent Cargo)} b ((record { target = 0; cargo = cargo.Event event }) ∷ []) []) ≤ 1
-    go true = omega arith
-    go false = omega arith
-
--- what waits is a measure: a context sends nothing, and an item one entry at most
-pub measure : (p : Program) (settings : Settings) → IsMeasure (actors_of p settings) (IsJoinedLog settings.contexts) weight cost
-measure p settings =
-    joined-measure settings.contexts (slots_of p settings) (reader_of p) (λ c. 0) (λ r. 0) (λ d e. 1) (λ i. 2) (record { pays = λ d log e lt alive. omega arith })
-    (record { entry = λ steps e. omega arith; item = λ steps i number. let one = one-at-most settings.contexts number i in omega arith })
-
--- one more turn
-pub turn-more : (p : Program) (settings : Settings) (takes : Bool) (began : Moment (Cargo ⊎ Item)) (now then : World) (d : ℕ) (handled more both : Bool) → Rounding (actors_of p settings) weight cost takes began (moment_of settings.contexts now) d handled → d ≤ settings.contexts
+-- one more turn, where what waits is a measure
+pub turn-more : (p : Program) (settings : Settings) → IsMeasure (actors_of p settings) (IsJoinedLog settings.contexts) weight cost → (takes : Bool) (began : Moment (Cargo ⊎ Item)) (now then : World) (d : ℕ) (handled more both : Bool) → Rounding (actors_of p settings) weight cost takes began (moment_of settings.contexts now) d handled → d ≤ settings.contexts
     → TurnsOn p settings takes d now then more → both ≡ (handled || more) → Rounding (actors_of p settings) weight cost takes began (moment_of settings.contexts then) (d + 1) both
-turn-more p settings takes began now then d handled more both h le turned is =
-    let next = machine-rounding_more settings.contexts (slots_of p settings) (reader_of p) weight cost (measure p settings) takes began (cells_in now.cells.items) now.reader.cell now.queued.items (cells_in then.cells.items) then.reader.cell then.queued.items d handled more h le turned in
+turn-more p settings measure takes began now then d handled more both h le turned is =
+    let next = machine-rounding_more settings.contexts (slots_of p settings) (reader_of p) weight cost measure takes began (cells_in now.cells.items) now.reader.cell now.queued.items (cells_in then.cells.items) then.reader.cell then.queued.items d handled more h le turned in
     let P : Bool → Type 0 = λ b. Rounding (actors_of p settings) weight cost takes began (moment_of settings.contexts then) (d + 1) b in
     subst P (sym is) next
 
 -- the reader's turn ends the round
-pub round-over : (p : Program) (settings : Settings) (takes : Bool) (old now then : World) (d : ℕ) (handled more both : Bool) → Rounding (actors_of p settings) weight cost takes (moment_of settings.contexts old) (moment_of settings.contexts now) d handled → d ≡ settings.contexts
+pub round-over : (p : Program) (settings : Settings) → IsMeasure (actors_of p settings) (IsJoinedLog settings.contexts) weight cost → (takes : Bool) (old now then : World) (d : ℕ) (handled more both : Bool) → Rounding (actors_of p settings) weight cost takes (moment_of settings.contexts old) (moment_of settings.contexts now) d handled → d ≡ settings.contexts
     → now.reader ≡ old.reader → TurnsOn p settings takes settings.contexts now then more → (takes ≡ false → then.reader.cell.rest ≡ now.reader.cell.rest) → both ≡ (handled || more) → IsStanding p settings then → IsFitting p then → RoundsOn p settings takes old then both
-round-over p settings takes old now then d handled more both h at same turned waits is stands fits =
+round-over p settings measure takes old now then d handled more both h at same turned waits is stands fits =
     let P : ℕ → Type 0 = λ k. Rounding (actors_of p settings) weight cost takes (moment_of settings.contexts old) (moment_of settings.contexts now) k handled in
-    let last = turn-more p settings takes (moment_of settings.contexts old) now then settings.contexts handled more both (subst P at h) (omega arith) turned is in
+    let last = turn-more p settings measure takes (moment_of settings.contexts old) now then settings.contexts handled more both (subst P at h) (omega arith) turned is in
     let end : suc settings.contexts ≤ settings.contexts + 1 = omega arith in
     record {
       standing = stands;

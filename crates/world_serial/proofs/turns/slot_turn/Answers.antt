@@ -1,6 +1,7 @@
 use Rattle.std.proofs.Common.{sym, true, ◌∙◌}
 use Rattle.actor_theory.specs.Language.{number_after}
 use Rattle.world_serial.proofs.FittingLemmas.{oldest-fits, turned-fits}
+use Rattle.world_serial.proofs.Sending.{cell_sends, cell-sends_fit}
 use Rattle.world_serial.proofs.StandLemmas.{alive-again, handed-cell, handled-stands, idle-stands, queue-low, slot-handled, slot-idle, slot-spent}
 use Rattle.world_serial.proofs.turns.slot_turn.Goals as goal
 
@@ -40,5 +41,6 @@ returns-clause-standing c =
 pub returns-clause-fits : goal.returns-clause-fits
 returns-clause-fits c =
     let low = queue-low c.args.program.now c.args.settings c.args.world.now.cells.items c.args.world.now.reader c.args.world.now.queued.items c.requires.standing c.args.slot c.requires.slot in
-    turned-fits c.args.program.now c.index_mut.result.now.cell.state.slot (number_after c.index_mut.result.now.cell.number c.in-Some.entry) c.args.slot c.args.slot c.args.world.now.cells.items c.cell_turn.new.cell c.args.world.now.reader.cell.rest c.args.world.now.queued.items c.pop_at.new.queued.items
+    turned-fits c.args.program.now c.index_mut.result.now.cell.state.slot (number_after c.index_mut.result.now.cell.number c.in-Some.entry) (cell_sends c.args.program.now c.args.settings c.index_mut.result.now c.in-Some.entry) c.args.slot c.args.slot c.args.world.now.cells.items c.cell_turn.new.cell c.args.world.now.reader.cell.rest c.args.world.now.queued.items c.pop_at.new.queued.items
     c.cell_turn.new.queued.items c.requires.fitting c.in_ok-cell_turn.ensures.rests low c.pop_at.ensures.rest (c.in_ok-cell_turn.ensures.queued c.args.settings)
+    (cell-sends_fit c.args.program.now c.args.settings c.index_mut.result.now c.in-Some.entry)
