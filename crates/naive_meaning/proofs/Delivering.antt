@@ -1,7 +1,7 @@
 -- What the actors of a record receive, in the theory and in its own words.
 use Rattle.std.proofs.Common.{◌≡◌, ◌≤◌, ◌∷◌, ◌++◌, ◌==◌, ◌⊎◌}
 use Rattle.std.specs.List.{AllByRecursion}
-use Rattle.naive_meaning.proofs.Common.{ℕ, List, [], Bool, true, false, cond, refl, sym, ◌∙◌, ap, subst, arith, append-nil, inl, inr, map, slice_get, eqb-true, eqb-false, Entry, Cargo, Item, Program, Settings, Record, World, by, numbers_along, lifted, step_entry, step_number, fresh, actors_of, loads_below, entries_of, log_of, part_at, received, sends, context_sends, items_send, mail, length, Sent}
+use Rattle.naive_meaning.proofs.Common.{ℕ, List, [], Bool, true, false, cond, refl, sym, ◌∙◌, ap, subst, arith, append-nil, inl, inr, map, slice_get, eqb-true, eqb-false, eq-eqb, ne_eqb, Entry, Cargo, Item, Program, Settings, Record, World, by, numbers_along, lifted, step_entry, step_number, fresh, actors_of, loads_below, entries_of, log_of, part_at, received, sends, context_sends, items_send, mail, length, Sent}
 use Rattle.actor_theory.specs.Joined.{slots_only}
 use Rattle.actor_theory.specs.Language.{sends as all_sends}
 use Rattle.actor_theory.specs.Kept.{world_of_kept}
@@ -20,6 +20,12 @@ log-of_slot settings r d other = log-slot settings.contexts (kept_of r) d other 
 
 pub queue-of_slot : (settings : Settings) (r : Record) (d : ℕ) → (d ≡ settings.contexts → ⊥) → (world_of settings r).queue d ≡ map lifted (part_at r d).left
 queue-of_slot settings r d other = queue-slot settings.contexts (kept_of r) d other ∙ left-at r.contexts d
+
+pub received-reader : (settings : Settings) (r : Record) → received settings r settings.contexts ≡ entries_of r.reader.steps ++ r.reader.left
+received-reader settings r = rw (eq-eqb settings.contexts settings.contexts refl) refl
+
+pub received-slot : (settings : Settings) (r : Record) (d : ℕ) → (d ≡ settings.contexts → ⊥) → received settings r d ≡ log_of (part_at r d) ++ (part_at r d).left
+received-slot settings r d other = rw (ne_eqb d settings.contexts other) refl
 
 -- what an actor has received of cargoes
 pub received-same : (settings : Settings) (r : Record) (d : ℕ) → cargoes ((world_of settings r).log d ++ (world_of settings r).queue d) ≡ received settings r d

@@ -7,3 +7,4 @@ pub mod Delivering
 pub mod Bearing
 pub mod Booting
 pub mod Wording
+pub mod Backing
