@@ -1,21 +1,20 @@
 -- What is faithful in a record's own words is faithful in the theory.
-use Rattle.std.proofs.Common.{◌≡◌, ◌+◌, ◌≤◌, ◌<◌, ◌∷◌, ◌++◌, ◌==◌, ◌⊎◌}
+use Rattle.std.proofs.Common.{◌≡◌, ◌≤◌, ◌<◌, ◌∷◌, ◌++◌, ◌==◌, ◌⊎◌}
 use Rattle.std.specs.List.{AllByRecursion}
 use Rattle.std.proofs.lemmas.List.{length-map, map-append}
 use Rattle.std.proofs.lemmas.Option.{slice_get_past}
-use Rattle.naive_meaning.proofs.Common.{ℕ, suc, List, [], Bool, true, false, cond, Option, Some, None, IfSome, refl, sym, ◌∙◌, ap, subst, arith, append-nil, inl, inr, map, length, slice_get, cases_eq, cases_lt, eqb-true, eqb-false, eq-eqb, ne_eqb, Entry, ReaderStep, Cargo, Item, Program, Settings, Context, ContextRecord, Record, World, by, mail, replies, numbers_along, lifted, own, items_of, step_entry, step_number, fresh, slots_of, reader_of, actors_of, loads_below, entries_of, log_of, part_at, received, sends}
-use Rattle.record_book.specs.declared.cargo.Line.{Line}
+use Rattle.naive_meaning.proofs.Common.{ℕ, suc, List, [], Bool, true, false, cond, Some, None, IfSome, refl, sym, ◌∙◌, ap, subst, arith, append-nil, inl, inr, map, length, slice_get, cases_eq, cases_lt, eqb-true, eq-eqb, ne_eqb, Entry, ReaderStep, Cargo, Item, Program, Settings, Context, ContextRecord, Record, by, mail, replies, numbers_along, lifted, own, items_of, step_entry, step_number, fresh, slots_of, reader_of, actors_of, loads_below, entries_of, log_of, part_at, received}
 use Rattle.actor_theory.specs.declared.entry.ReaderStep.TheVariants as step
 use Rattle.actor_theory.specs.Faithful.{BeginsWithBoot, IsPrefix}
 use Rattle.actor_theory.specs.Joined.{slots_only, to_slots}
 use Rattle.actor_theory.specs.Kept as kept
 use Rattle.actor_theory.specs.Language.{before, first, loaded, sends as all_sends, to_self}
 use Rattle.actor_theory.proofs.Beside.{begins-more}
-use Rattle.actor_theory.proofs.Given.{by-own, mail-append, mail-items_other, sends-own}
+use Rattle.actor_theory.proofs.Given.{mail-append, mail-items_other, sends-own}
 use Rattle.actor_theory.proofs.Joining.{joined-quiet, mail-to_slots_none}
-use Rattle.actor_theory.proofs.Keeping.{log-reader, queue-reader, log-slot, queue-slot, scheduled-kept}
+use Rattle.actor_theory.proofs.Keeping.{log-reader, queue-reader, queue-slot, scheduled-kept}
 use Rattle.actor_theory.proofs.Leaving.{lifted-append}
-use Rattle.actor_theory.proofs.Lists.{by-append, by-cons, by-one_same}
+use Rattle.actor_theory.proofs.Lists.{by-append}
 use Rattle.actor_theory.proofs.Scheduled.{sends-none}
 use Rattle.naive_meaning.specs.Faithful.{FaithfulContext, FaithfulRecord, BeginsWith}
 use Rattle.naive_meaning.specs.Records.{IsFaithful, shown, slot_kept, kept_of}
@@ -111,13 +110,13 @@ by-above n s [] h lt = refl
 by-above n s (e ∷ es) h lt = let here = h.0 in rw (ne_eqb e.sender s (λ i. omega arith)) (by-above n s es h.1 lt)
 
 module _ (p : Program) (items : List Item) (settings : Settings) (r : Record) (h : FaithfulRecord p items settings r) where
-  log_past : (d : ℕ) → settings.contexts < d → (world_of settings r).log d ≡ []
-  log_past d lt =
+  world-log_past : (d : ℕ) → settings.contexts < d → (world_of settings r).log d ≡ []
+  world-log_past d lt =
       let count = h.count in
       log-of_slot settings r d (λ i. omega arith) ∙ ap (map lifted) (log-past r.contexts d (omega arith))
 
-  queue_past : (d : ℕ) → settings.contexts < d → (world_of settings r).queue d ≡ []
-  queue_past d lt =
+  world-queue_past : (d : ℕ) → settings.contexts < d → (world_of settings r).queue d ≡ []
+  world-queue_past d lt =
       let count = h.count in
       queue-slot settings.contexts (kept_of r) d (λ i. omega arith)
       ∙ ap kept.slot_left (slice_get_past (kept_of r).slots d (let same = length-map r.contexts slot_kept in omega arith))
@@ -131,21 +130,21 @@ module _ (p : Program) (items : List Item) (settings : Settings) (r : Record) (h
           let Q : List (Entry Cargo) → Type 0 = AllByRecursion (λ e. e.sender ≤ settings.contexts) in
           let all : AllByRecursion (λ e. e.sender ≤ settings.contexts) (entries_of r.reader.steps ++ r.reader.left) = subst Q (received-reader settings r) (h.senders settings.contexts (omega arith)) in
           rw (log-reader settings.contexts (kept_of r), queue-reader settings.contexts (kept_of r))
-              (both-all settings.contexts (map (step_entry settings.contexts) r.reader.steps) (map lifted r.reader.left) (all-steps settings.contexts r.reader.steps (all-begin settings.contexts (entries_of r.reader.steps) r.reader.left all)) (all-lift settings.contexts r.reader.left (all-rest settings.contexts (entries_of r.reader.steps) r.reader.left all)))
+          (both-all settings.contexts (map (step_entry settings.contexts) r.reader.steps) (map lifted r.reader.left) (all-steps settings.contexts r.reader.steps (all-begin settings.contexts (entries_of r.reader.steps) r.reader.left all)) (all-lift settings.contexts r.reader.left (all-rest settings.contexts (entries_of r.reader.steps) r.reader.left all)))
 
       slot : d ≤ settings.contexts → (d ≡ settings.contexts → ⊥) → AllByRecursion (λ e. e.sender ≤ settings.contexts) ((world_of settings r).log d ++ (world_of settings r).queue d)
       slot le other =
           let Q : List (Entry Cargo) → Type 0 = AllByRecursion (λ e. e.sender ≤ settings.contexts) in
           let all : AllByRecursion (λ e. e.sender ≤ settings.contexts) (log_of (part_at r d) ++ (part_at r d).left) = subst Q (received-slot settings r d other) (h.senders d le) in
           rw (log-of_slot settings r d other, queue-of_slot settings r d other)
-              (both-all settings.contexts (map lifted (log_of (part_at r d))) (map lifted (part_at r d).left) (all-lift settings.contexts (log_of (part_at r d)) (all-begin settings.contexts (log_of (part_at r d)) (part_at r d).left all)) (all-lift settings.contexts (part_at r d).left (all-rest settings.contexts (log_of (part_at r d)) (part_at r d).left all)))
+          (both-all settings.contexts (map lifted (log_of (part_at r d))) (map lifted (part_at r d).left) (all-lift settings.contexts (log_of (part_at r d)) (all-begin settings.contexts (log_of (part_at r d)) (part_at r d).left all)) (all-lift settings.contexts (part_at r d).left (all-rest settings.contexts (log_of (part_at r d)) (part_at r d).left all)))
 
       within : d ≤ settings.contexts → ((d ≡ settings.contexts) ⊎ (d ≡ settings.contexts → ⊥)) → AllByRecursion (λ e. e.sender ≤ settings.contexts) ((world_of settings r).log d ++ (world_of settings r).queue d)
       within le (inl at) = rw at reader
       within le (inr other) = slot le other
 
       go : ((settings.contexts < d) ⊎ (d ≤ settings.contexts)) → AllByRecursion (λ e. e.sender ≤ settings.contexts) ((world_of settings r).log d ++ (world_of settings r).queue d)
-      go (inl lt) = rw (log_past d lt, queue_past d lt) tt
+      go (inl lt) = rw (world-log_past d lt, world-queue_past d lt) tt
       go (inr le) = within le (cases_eq d settings.contexts)
 
   numbers-world : map step_number r.reader.steps ≡ numbers_along 0 (map (step_entry settings.contexts) r.reader.steps)
@@ -189,7 +188,7 @@ module _ (p : Program) (items : List Item) (settings : Settings) (r : Record) (h
       let k = settings.contexts in
       let sent = sends-own (actors_of p settings) (map inr items) ((world_of settings r).log k) (joined-quiet k (slots_of p settings) (reader_of p)) in
       let nothing : by k (received settings r k) ≡ [] =
-          h.delivered k k (omega arith) (omega arith) ∙ sym (sends-same p items settings r k k numbers-world (omega arith)) ∙ ap cargoes sent ∙ cargoes-own k items in
+      h.delivered k k (omega arith) (omega arith) ∙ sym (sends-same p items settings r k k numbers-world (omega arith)) ∙ ap cargoes sent ∙ cargoes-own k items in
       let all : by k (entries_of r.reader.steps ++ []) ≡ [] = ap (λ es. by k (entries_of r.reader.steps ++ es)) (sym h.nothing_left) ∙ ap (by k) (sym (received-reader settings r)) ∙ nothing in
       let entries : by k (entries_of r.reader.steps) ≡ [] = ap (by k) (sym (append-nil (entries_of r.reader.steps))) ∙ all in
       ap (λ l. by k (l ++ (world_of settings r).queue k)) (log-reader k (kept_of r))
@@ -199,7 +198,7 @@ module _ (p : Program) (items : List Item) (settings : Settings) (r : Record) (h
 
   past-delivered : (s d : ℕ) → settings.contexts < d → by s ((world_of settings r).log d ++ (world_of settings r).queue d) ≡ all_sends (actors_of p settings) (map inr items) s d ((world_of settings r).log s)
   past-delivered s d lt =
-      ap (λ l. by s (l ++ (world_of settings r).queue d)) (log_past d lt) ∙ ap (by s) (queue_past d lt)
+      ap (λ l. by s (l ++ (world_of settings r).queue d)) (world-log_past d lt) ∙ ap (by s) (world-queue_past d lt)
       ∙ sym (ap (λ es. es ++ replies (actors_of p settings) s d (first (actors_of p settings) s) ((world_of settings r).log s)) (none (s == settings.contexts)) ∙ replies-past settings.contexts (slots_of p settings) (reader_of p) s d (first (actors_of p settings) s) ((world_of settings r).log s) lt)
     where
       none : (b : Bool) → mail s 0 d (cond b (loaded (actors_of p settings) (map inr items)) []) ≡ []
@@ -229,7 +228,7 @@ module _ (p : Program) (items : List Item) (settings : Settings) (r : Record) (h
       go : ((settings.contexts < d) ⊎ (d ≤ settings.contexts)) → ((settings.contexts < s) ⊎ (s ≤ settings.contexts)) → by s ((world_of settings r).log d ++ (world_of settings r).queue d) ≡ all_sends (actors_of p settings) (map inr items) s d ((world_of settings r).log s)
       go (inl lt) any = past-delivered s d lt
       go (inr le) (inl lt) =
-          by-above settings.contexts s ((world_of settings r).log d ++ (world_of settings r).queue d) (senders-world d) lt ∙ sym (sends-none (actors_of p settings) (map inr items) s d ((world_of settings r).log s) lt (log_past s lt))
+          by-above settings.contexts s ((world_of settings r).log d ++ (world_of settings r).queue d) (senders-world d) lt ∙ sym (sends-none (actors_of p settings) (map inr items) s d ((world_of settings r).log s) lt (world-log_past s lt))
       go (inr d_le) (inr s_le) = both s_le d_le (cases_eq s settings.contexts) (cases_eq d settings.contexts)
 
   -- the logs go on from those of boot

@@ -1,10 +1,10 @@
 -- Without items nobody sends one.
-use Rattle.std.proofs.Common.{◌≡◌, ◌≤◌, ◌<◌, ◌∷◌, ◌++◌, ◌==◌, ◌⊎◌}
+use Rattle.std.proofs.Common.{◌≡◌, ◌<◌, ◌∷◌, ◌++◌, ◌==◌, ◌⊎◌}
 use Rattle.std.specs.List.{AllByRecursion}
-use Rattle.naive_meaning.proofs.Common.{ℕ, nat_le, List, [], Bool, true, false, cond, refl, sym, ◌∙◌, ap, subst, arith, inl, inr, map, filter, cases_eq, eq-eqb, eqb-false, ne_eqb, Entry, Sent, by, is_for, mail, number_after, replies, stamped, lifted, lifted_sent}
+use Rattle.naive_meaning.proofs.Common.{ℕ, nat_le, List, [], Bool, true, false, cond, refl, sym, ◌∙◌, ap, arith, inl, inr, map, filter, eqb-false, Entry, Sent, by, is_for, mail, number_after, replies, stamped, lifted, lifted_sent}
 use Rattle.actor_theory.specs.Language.{Moment, before, first, loaded, next, reply, sends as all_sends}
-use Rattle.actor_theory.specs.Joined.{Slots, Reader, joined, carrying, to_actors, to_slots, actor_sent, slots_only}
-use Rattle.actor_theory.proofs.Joining.{slot_moment, reader_moment, first-slot, first-reader, mail-to_actors_none, mail-to_slots_none}
+use Rattle.actor_theory.specs.Joined.{Slots, Reader, joined, carrying, actor_sent, slots_only}
+use Rattle.actor_theory.proofs.Joining.{mail-to_actors_none, mail-to_slots_none}
 use Rattle.naive_meaning.proofs.Carried.{cargoes, with_cargo}
 
 -- it carries a cargo

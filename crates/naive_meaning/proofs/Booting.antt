@@ -2,11 +2,11 @@
 use Rattle.std.proofs.Common.{◌≡◌, ◌+◌, ◌≤◌, ◌<◌, ◌∷◌, ◌++◌, ◌==◌, ◌⊎◌}
 use Rattle.std.proofs.lemmas.Option.{slice_get-map, slice_get_past}
 use Rattle.std.specs.Option.{option_map}
-use Rattle.naive_meaning.proofs.Common.{ℕ, zero, suc, List, [], Bool, true, false, cond, Option, Some, None, IfSome, refl, sym, ◌∙◌, ap, subst, arith, append-nil, inl, inr, map, length, slice_get, cases_eq, cases_lt, eq-eqb, eqb-true, eqb-false, ne_eqb, Entry, Handled, ReaderStep, Cargo, Item, Program, Settings, Context, ContextRecord, Record, World, by, own, mail, number_after, numbers_along, lifted, slot_after, step_entry, step_number, fresh, slots_of, reader_of, actors_of, loads_below, naive}
+use Rattle.naive_meaning.proofs.Common.{ℕ, zero, suc, List, [], Bool, true, false, cond, Some, None, IfSome, refl, sym, ◌∙◌, ap, subst, arith, inl, inr, map, length, slice_get, cases_eq, cases_lt, eqb-true, eqb-false, Entry, Handled, ReaderStep, Cargo, Item, Program, Settings, Context, ContextRecord, Record, World, by, mail, number_after, numbers_along, lifted, slot_after, step_entry, step_number, fresh, slots_of, reader_of, actors_of, loads_below, naive}
 use Rattle.actor_theory.specs.declared.entry.ReaderStep.TheVariants as step
 use Rattle.actor_theory.specs.Language.{first, loaded, replies}
 use Rattle.std.proofs.lemmas.List.{length-map}
-use Rattle.actor_theory.specs.World.{finds, first_from, given, head_sender, is_open, other_sender, turn_of, turn_sender, IsQuiet}
+use Rattle.actor_theory.specs.World.{first_from, given, head_sender, is_open, other_sender, turn_sender, IsQuiet}
 use Rattle.actor_theory.specs.Faithful.{IsBoot}
 use Rattle.actor_theory.specs.Order.{left_of, ordered}
 use Rattle.actor_theory.specs.Kept as kept
@@ -16,11 +16,10 @@ use Rattle.actor_theory.proofs.Keeping.{log-reader, queue-reader, log-slot, queu
 use Rattle.actor_theory.proofs.Leaving.{ordered-nil}
 use Rattle.actor_theory.proofs.Lists.{by-append}
 use Rattle.actor_theory.proofs.Machining.{world-same}
-use Rattle.actor_theory.proofs.Running.{IsRun}
 use Rattle.actor_theory.proofs.Scheduled.{boot-run}
 use Rattle.naive_meaning.specs.Records.{shown, slot_kept, kept_of, IsScheduled}
 use Rattle.naive_meaning.proofs.Bearing.{AllCargo, all-append, all-back, all-by, all-front, all-lifted, replies-past, sends-all}
-use Rattle.naive_meaning.proofs.Carried.{cargoes, cargoes-lifted}
+use Rattle.naive_meaning.proofs.Carried.{cargoes}
 use Rattle.naive_meaning.proofs.Parts.{after-same}
 
 -- entries handled under their numbers, by a context and by the reader

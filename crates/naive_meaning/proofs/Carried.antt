@@ -1,6 +1,6 @@
 -- Entries that carry a cargo, among those that carry a cargo or an item.
 use Rattle.std.proofs.Common.{◌≡◌, ◌∷◌, ◌++◌, ◌==◌, ◌⊎◌}
-use Rattle.naive_meaning.proofs.Common.{ℕ, List, [], Bool, true, false, cond, refl, sym, ◌∙◌, ap, inl, inr, map, filter, Entry, ReaderStep, Cargo, Item, Sent, by, is_for, mail, stamped, lifted, lifted_sent, step_entry, entries_of}
+use Rattle.naive_meaning.proofs.Common.{ℕ, List, [], Bool, true, false, cond, refl, ap, inl, inr, map, filter, Entry, ReaderStep, Cargo, Item, Sent, by, is_for, mail, stamped, lifted, lifted_sent, step_entry, entries_of}
 use Rattle.actor_theory.specs.Joined.{carrying}
 use Rattle.actor_theory.specs.Language.{to_self}
 use Rattle.actor_theory.specs.declared.entry.ReaderStep.TheVariants as step

@@ -1,7 +1,7 @@
 -- What the actors of a record receive, in the theory and in its own words.
 use Rattle.std.proofs.Common.{◌≡◌, ◌≤◌, ◌∷◌, ◌++◌, ◌==◌, ◌⊎◌}
 use Rattle.std.specs.List.{AllByRecursion}
-use Rattle.naive_meaning.proofs.Common.{ℕ, List, [], Bool, true, false, cond, refl, sym, ◌∙◌, ap, subst, arith, append-nil, inl, inr, map, slice_get, eqb-true, eqb-false, eq-eqb, ne_eqb, Entry, Cargo, Item, Program, Settings, Record, World, by, numbers_along, lifted, step_entry, step_number, fresh, actors_of, loads_below, entries_of, log_of, part_at, received, sends, context_sends, items_send, mail, length, Sent}
+use Rattle.naive_meaning.proofs.Common.{ℕ, List, [], Bool, true, false, cond, refl, sym, ◌∙◌, ap, inl, inr, map, eqb-true, eqb-false, eq-eqb, ne_eqb, Entry, Cargo, Item, Program, Settings, Record, World, by, numbers_along, lifted, step_entry, step_number, fresh, actors_of, loads_below, entries_of, log_of, part_at, received, sends, context_sends, items_send, mail, length, Sent}
 use Rattle.actor_theory.specs.Joined.{slots_only}
 use Rattle.actor_theory.specs.Language.{sends as all_sends}
 use Rattle.actor_theory.specs.Kept.{world_of_kept}

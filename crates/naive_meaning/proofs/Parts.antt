@@ -1,10 +1,9 @@
 -- The parts of a record, in the theory and in its own words.
-use Rattle.std.proofs.Common.{◌≡◌, ◌+◌, ◌≤◌, ◌<◌, ◌∷◌, ◌++◌, ◌==◌, ◌⊎◌}
+use Rattle.std.proofs.Common.{◌≡◌, ◌+◌, ◌≤◌, ◌<◌, ◌∷◌, ◌++◌}
 use Rattle.std.proofs.lemmas.Option.{slice_get-map}
-use Rattle.naive_meaning.proofs.Common.{ℕ, zero, suc, max, List, [], Bool, true, false, cond, Option, Some, None, IfSome, refl, sym, ◌∙◌, ap, subst, arith, append-nil, inl, inr, map, length, get_or, slice_get, cases_lt, eqb-true, Entry, Handled, ReaderStep, Cargo, Item, Program, Settings, Context, ContextRecord, Record, by, mail, number_after, numbers_along, lifted, slot_after, step_entry, fresh, handle, slots_of, log_of, part_at, numbers, stamp_of}
+use Rattle.naive_meaning.proofs.Common.{ℕ, zero, suc, max, List, [], false, Some, refl, sym, ◌∙◌, ap, arith, map, length, get_or, slice_get, Entry, Handled, ReaderStep, Cargo, Item, Program, Settings, Context, ContextRecord, Record, number_after, numbers_along, lifted, slot_after, step_entry, handle, slots_of, log_of, part_at, numbers, stamp_of}
 use Rattle.actor_theory.specs.declared.entry.ReaderStep.TheVariants as step
 use Rattle.actor_theory.specs.Joined.{IsUnspentSlot}
-use Rattle.actor_theory.specs.Order.{ordered}
 use Rattle.actor_theory.specs.Kept as kept
 use Rattle.std.specs.Option.{option_map}
 use Rattle.naive_meaning.specs.Faithful.{after}

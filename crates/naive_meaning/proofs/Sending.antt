@@ -1,12 +1,11 @@
 -- What the actors of a record send, in the theory and in its own words.
-use Rattle.std.proofs.Common.{◌≡◌, ◌≤◌, ◌∷◌, ◌++◌, ◌==◌, ◌⊎◌}
-use Rattle.naive_meaning.proofs.Common.{ℕ, List, [], Bool, true, false, cond, refl, sym, ◌∙◌, ap, append-nil, inl, inr, map, length, eq-eqb, ne_eqb, Entry, ReaderStep, Cargo, Item, Program, Settings, Context, Sent, by, mail, number_after, numbers_along, replies, own, lifted, step_entry, step_number, fresh, handle, slots_of, reader_of, item_sends, loads_below, actors_of, context_sends, items_send}
-use Rattle.actor_theory.specs.Language.{Moment, first, sends as all_sends, to_self}
+use Rattle.std.proofs.Common.{◌≡◌, ◌≤◌, ◌∷◌, ◌++◌, ◌⊎◌}
+use Rattle.naive_meaning.proofs.Common.{ℕ, List, [], refl, sym, ◌∙◌, ap, inr, map, length, eq-eqb, ne_eqb, Entry, ReaderStep, Cargo, Item, Program, Settings, Context, Sent, mail, number_after, numbers_along, replies, own, lifted, step_entry, step_number, fresh, handle, slots_of, item_sends, loads_below, actors_of, context_sends, items_send}
+use Rattle.actor_theory.specs.Language.{sends as all_sends, to_self}
 use Rattle.actor_theory.specs.Joined.{slots_only, to_actors, to_slots}
 use Rattle.actor_theory.specs.declared.entry.ReaderStep.TheVariants as step
 use Rattle.actor_theory.proofs.Given.{mail-append}
-use Rattle.actor_theory.proofs.Joining.{mail-to_actors, slot_moment, reader_moment, first-slot, first-reader}
-use Rattle.naive_meaning.specs.Actors.{ReaderState}
+use Rattle.actor_theory.proofs.Joining.{mail-to_actors, slot_moment, reader_moment}
 use Rattle.naive_meaning.proofs.Carried.{cargoes, cargoes-append, cargoes-lifted, cargoes-mail, cargoes-items}
 
 -- what the actors of a program have sent of cargoes

@@ -1,7 +1,7 @@
 -- What the theory calls faithful, in the record's own words.
-use Rattle.std.proofs.Common.{◌≡◌, ◌+◌, ◌≤◌, ◌<◌, ◌∷◌, ◌++◌, ◌==◌, ◌⊎◌}
+use Rattle.std.proofs.Common.{◌≡◌, ◌≤◌, ◌<◌, ◌∷◌, ◌++◌, ◌⊎◌}
 use Rattle.std.specs.List.{AllByRecursion}
-use Rattle.naive_meaning.proofs.Common.{ℕ, suc, List, [], Option, Some, IfSome, refl, sym, ◌∙◌, ap, subst, arith, inl, inr, map, length, slice_get, cases_eq, cases_lt, Entry, ReaderStep, Cargo, Item, Program, Settings, Context, ContextRecord, Record, World, number_after, numbers_along, lifted, own, step_entry, step_number, fresh, slots_of, reader_of, actors_of, entries_of, log_of, part_at, received}
+use Rattle.naive_meaning.proofs.Common.{ℕ, suc, List, [], Option, IfSome, refl, sym, ◌∙◌, ap, subst, arith, inl, inr, map, length, cases_lt, Entry, ReaderStep, Cargo, Item, Program, Settings, Context, ContextRecord, Record, World, number_after, numbers_along, lifted, own, step_entry, step_number, fresh, slots_of, actors_of, log_of, part_at, received}
 use Rattle.record_book.specs.declared.cargo.Line.{Line}
 use Rattle.std.proofs.lemmas.List.{length-map}
 use Rattle.actor_theory.specs.declared.entry.ReaderStep.TheVariants as step
@@ -31,6 +31,9 @@ context-words p settings slot c naive ended =
       nothing_left = ended.nothing_left;
     }
 
+one-more : (e : Entry Cargo) (m n : ℕ) (front whole : List (ReaderStep Item Cargo)) → m ≡ n → IsPrefix front whole → IsPrefix (step.Entry e n ∷ front) (step.Entry e m ∷ whole)
+one-more e m n front whole i h = (h.0, ap (λ j. step.Entry e j ∷ whole) i ∙ ap (λ xs. step.Entry e n ∷ xs) h.1)
+
 -- the reader's steps go on from those of the entries that stand in front
 steps-begin : (k last : ℕ) (es : List (Entry Cargo)) (steps : List (ReaderStep Item Cargo)) (rest : List (Entry (Cargo ⊎ Item))) → map step_number steps ≡ numbers_along last (map (step_entry k) steps) → map (step_entry k) steps ≡ map lifted es ++ rest → IsPrefix (taken last es) steps
 steps-begin k last [] steps rest n h = (steps, refl)
@@ -46,8 +49,7 @@ steps-begin k last (e ∷ es) (step.Entry f m ∷ steps) rest n h =
     let numbers : map step_number steps ≡ numbers_along (number_after last f) (map (step_entry k) steps) = cc in
     let same : f ≡ e = lifted-same f e head in
     let P : Entry Cargo → Type 0 = λ x. IsPrefix (taken last (x ∷ es)) (step.Entry f m ∷ steps) in
-    let more = steps-begin k (number_after last f) es steps rest numbers tail in
-    subst P same (more.0, ap (λ j. step.Entry f j ∷ steps) number ∙ ap (λ xs. step.Entry f (number_after last f) ∷ xs) more.1)
+    subst P same (one-more f m (number_after last f) (taken (number_after last f) es) steps number (steps-begin k (number_after last f) es steps rest numbers tail))
 
 -- the record goes on from that of boot
 boot-begins : (p : Program) (settings : Settings) (r : Record) (boot : World (Cargo ⊎ Item)) → IsBoot (actors_of p settings) boot → ((d : ℕ) → IsPrefix (boot.log d) ((world_of settings r).log d))

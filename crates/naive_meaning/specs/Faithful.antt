@@ -21,7 +21,7 @@ use Rattle.naive_meaning.specs.Records.{IsScheduled}
 abbrev pub log_of : ContextRecord → List (Entry Cargo)
 log_of c = map (λ h. h.entry) c.handled
 
--- the part of a slot's context; where there is none, one of nothing
+-- the part of a slot's context; an empty one where there is none
 abbrev pub part_at : Record → ℕ → ContextRecord
 part_at r slot = get_or r.contexts slot (record { lines = []; handled = []; left = []; spent = false })
 
@@ -35,19 +35,19 @@ entries_of (step.Entry e n ∷ steps) = e ∷ entries_of steps
 abbrev pub received : Settings → Record → ℕ → List (Entry Cargo)
 received settings r d = if d == settings.contexts then entries_of r.reader.steps ++ r.reader.left else log_of (part_at r d) ++ (part_at r d).left
 
--- a context after these entries, each handled under its number: 1 plus the greater of the last number and the entry's stamp
+-- a context after these entries, each handled under its number
 abbrev pub after : Program → Context → ℕ → List (Entry Cargo) → Context
 after p c last [] = c
-after p c last (e ∷ es) = after p (handle p c (number_after last e) e.cargo) (number_after last e) es
+after p c last (e ∷ es) = let n = number_after last e in after p (handle p c n e.cargo) n es
 
 -- naive evaluation of a log, from the empty context of the slot with full fuel
 abbrev pub naive : Program → Settings → ℕ → List (Entry Cargo) → Context
 naive p settings slot log = after p (fresh slot settings.contexts settings.fuel) 0 log
 
--- the numbers of handlings of what has these stamps
+-- the numbers of handlings of what has these stamps: each is 1 plus the greater of the last number and the stamp
 abbrev pub numbers : ℕ → List ℕ → List ℕ
 numbers last [] = []
-numbers last (stamp ∷ stamps) = (1 + max last stamp) ∷ numbers (1 + max last stamp) stamps
+numbers last (stamp ∷ stamps) = let n = 1 + max last stamp in n ∷ numbers n stamps
 
 -- the stamp of what the reader takes; an item has 0
 abbrev pub stamp_of : ReaderStep Item Cargo → ℕ
@@ -58,7 +58,8 @@ stamp_of (step.Entry e n) = e.stamp
 abbrev pub context_sends : Program → Settings → ℕ → ℕ → Context → ℕ → List (Entry Cargo) → List (Entry Cargo)
 context_sends p settings s d c last [] = []
 context_sends p settings s d c last (e ∷ es) =
-    mail s (number_after last e) d ((slots_of p settings).sent c (number_after last e) e) ++ context_sends p settings s d (handle p c (number_after last e) e.cargo) (number_after last e) es
+    let n = number_after last e in
+    mail s n d ((slots_of p settings).sent c n e) ++ context_sends p settings s d (handle p c n e.cargo) n es
 
 -- what the reader sends to the actor d for the items in these steps, with each step's number as stamp; it sends to slots alone
 abbrev pub items_send : Settings → ℕ → List (ReaderStep Item Cargo) → List (Entry Cargo)
@@ -72,14 +73,14 @@ sends p settings r s d =
     if s == settings.contexts then mail s 0 d (slots_only settings.contexts (loads_below (length p.monitors))) ++ items_send settings d r.reader.steps
     else context_sends p settings s d (fresh s settings.contexts settings.fuel) 0 (log_of (part_at r s))
 
--- a context's part is that of naive evaluation over its log
+-- a context's part: its lines, numbers and mark are those of naive evaluation over its log
 pub record FaithfulContext (p : Program) (settings : Settings) (slot : ℕ) (c : ContextRecord) : Type 0 where
   pub lines : c.lines ≡ (naive p settings slot (log_of c)).lines
   pub numbers_are : map (λ h. h.number) c.handled ≡ numbers 0 (map (λ h. h.entry.stamp) c.handled)
   pub spent : c.spent ≡ (naive p settings slot (log_of c)).spent
   -- no entry stands behind the one that spent it
   pub unspent : (front rest : List (Entry Cargo)) (e : Entry Cargo) → log_of c ≡ front ++ e ∷ rest → (naive p settings slot front).spent ≡ false
-  -- what is left is in ascending order of senders
+  -- what is left is in ascending order of senders, and there is none unless it is spent
   pub ascending : (front rest : List (Entry Cargo)) (e f : Entry Cargo) → c.left ≡ front ++ e ∷ f ∷ rest → e.sender ≤ f.sender
   pub nothing_left : c.spent ≡ false → c.left ≡ []
 
