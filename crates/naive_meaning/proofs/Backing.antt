@@ -34,22 +34,27 @@ context-naive p settings slot c h =
       spent = h.spent ∙ ap (λ (d : Context). d.spent) same;
     }
 
+-- up to a number is below the next
 all-less : {C : Type 0} (n : ℕ) (es : List (Entry C)) → AllByRecursion (λ e. e.sender ≤ n) es → AllByRecursion (λ e. e.sender < suc n) es
 all-less n [] h = tt
 all-less n (e ∷ es) h = let here = h.0 in (omega arith, all-less n es h.1)
 
+-- the senders of the second of two lists
 all-rest : {C : Type 0} (n : ℕ) (xs ys : List (Entry C)) → AllByRecursion (λ e. e.sender ≤ n) (xs ++ ys) → AllByRecursion (λ e. e.sender ≤ n) ys
 all-rest n [] ys h = h
 all-rest n (x ∷ xs) ys h = all-rest n xs ys h.1
 
+-- those of the first
 all-begin : {C : Type 0} (n : ℕ) (xs ys : List (Entry C)) → AllByRecursion (λ e. e.sender ≤ n) (xs ++ ys) → AllByRecursion (λ e. e.sender ≤ n) xs
 all-begin n [] ys h = tt
 all-begin n (x ∷ xs) ys h = (h.0, all-begin n xs ys h.1)
 
+-- those of both
 both-all : {C : Type 0} (n : ℕ) (xs ys : List (Entry C)) → AllByRecursion (λ e. e.sender ≤ n) xs → AllByRecursion (λ e. e.sender ≤ n) ys → AllByRecursion (λ e. e.sender ≤ n) (xs ++ ys)
 both-all n [] ys a b = b
 both-all n (x ∷ xs) ys a b = (a.0, both-all n xs ys a.1 b)
 
+-- nothing stands behind the entry that spent it, and what is left is by sender
 context-ended : (p : Program) (settings : Settings) (slot : ℕ) (c : ContextRecord) → FaithfulContext p settings slot c → AllByRecursion (λ e. e.sender ≤ settings.contexts) (log_of c ++ c.left)
     → kept.IsSlotEnded settings.contexts (slots_of p settings) slot (slot_kept c)
 context-ended p settings slot c h senders = record {
@@ -62,6 +67,7 @@ context-ended p settings slot c h senders = record {
 same-cargoes : (xs ys : List (Entry (Cargo ⊎ Item))) → AllCargo xs → AllCargo ys → cargoes xs ≡ cargoes ys → xs ≡ ys
 same-cargoes xs ys a b h = sym (all-lifted xs a) ∙ ap (map lifted) h ∙ all-lifted ys b
 
+-- the entries of a sender among cargoes are cargoes
 by-lifted_all : (s : ℕ) (es : List (Entry Cargo)) → AllCargo {C = Cargo} {I = Item} (by s (map lifted es))
 by-lifted_all s [] = tt
 by-lifted_all s (e ∷ es) = go (by-lifted_all s es) (e.sender == s)
@@ -91,14 +97,17 @@ by-steps_own k (step.Entry e n ∷ steps) h = go (λ j. by-steps_own k steps j) 
     go ih true j = absurd (cc)
     go ih false j = ih j
 
+-- items carry no cargo
 cargoes-own : (k : ℕ) (items : List Item) → cargoes {C = Cargo} {I = Item} (map (own k) (map inr items)) ≡ []
 cargoes-own k [] = refl
 cargoes-own k (i ∷ is) = cargoes-own k is
 
+-- the senders stay the same
 all-lift : (n : ℕ) (es : List (Entry Cargo)) → AllByRecursion (λ e. e.sender ≤ n) es → AllByRecursion (λ (e : Entry (Cargo ⊎ Item)). e.sender ≤ n) (map lifted es)
 all-lift n [] h = tt
 all-lift n (e ∷ es) h = (h.0, all-lift n es h.1)
 
+-- the senders in the steps are actors, the reader among them
 all-steps : (k : ℕ) (steps : List (ReaderStep Item Cargo)) → AllByRecursion (λ e. e.sender ≤ k) (entries_of steps) → AllByRecursion (λ (e : Entry (Cargo ⊎ Item)). e.sender ≤ k) (map (step_entry k) steps)
 all-steps k [] h = tt
 all-steps k (step.Item i n ∷ steps) h = (omega arith, all-steps k steps h)
@@ -110,11 +119,13 @@ by-above n s [] h lt = refl
 by-above n s (e ∷ es) h lt = let here = h.0 in rw (ne_eqb e.sender s (λ i. omega arith)) (by-above n s es h.1 lt)
 
 module _ (p : Program) (items : List Item) (settings : Settings) (r : Record) (h : FaithfulRecord p items settings r) where
+  -- what is no actor has no log
   world-log_past : (d : ℕ) → settings.contexts < d → (world_of settings r).log d ≡ []
   world-log_past d lt =
       let count = h.count in
       log-of_slot settings r d (λ i. omega arith) ∙ ap (map lifted) (log-past r.contexts d (omega arith))
 
+  -- and no queue
   world-queue_past : (d : ℕ) → settings.contexts < d → (world_of settings r).queue d ≡ []
   world-queue_past d lt =
       let count = h.count in
@@ -147,6 +158,7 @@ module _ (p : Program) (items : List Item) (settings : Settings) (r : Record) (h
       go (inl lt) = rw (world-log_past d lt, world-queue_past d lt) tt
       go (inr le) = within le (cases_eq d settings.contexts)
 
+  -- the numbers of the steps are those of the theory
   numbers-world : map step_number r.reader.steps ≡ numbers_along 0 (map (step_entry settings.contexts) r.reader.steps)
   numbers-world = h.numbers_are ∙ steps-numbers settings.contexts 0 r.reader.steps
 
@@ -196,6 +208,7 @@ module _ (p : Program) (items : List Item) (settings : Settings) (r : Record) (h
       ∙ ap (by k) (append-nil (map (step_entry k) r.reader.steps))
       ∙ by-steps_own k r.reader.steps entries ∙ ap (λ is. map (own k) (map inr is)) h.items_are ∙ sym sent
 
+  -- nothing is sent to what is no actor
   past-delivered : (s d : ℕ) → settings.contexts < d → by s ((world_of settings r).log d ++ (world_of settings r).queue d) ≡ all_sends (actors_of p settings) (map inr items) s d ((world_of settings r).log s)
   past-delivered s d lt =
       ap (λ l. by s (l ++ (world_of settings r).queue d)) (world-log_past d lt) ∙ ap (by s) (world-queue_past d lt)
@@ -212,6 +225,7 @@ module _ (p : Program) (items : List Item) (settings : Settings) (r : Record) (h
           no-items (i ∷ is) = rw (ne_eqb settings.contexts d (λ j. omega arith)) (no-items is)
       none false = refl
 
+  -- each send was received, for any two numbers
   each-delivered : (s d : ℕ) → by s ((world_of settings r).log d ++ (world_of settings r).queue d) ≡ all_sends (actors_of p settings) (map inr items) s d ((world_of settings r).log s)
   each-delivered s d = go (cases_lt settings.contexts d) (cases_lt settings.contexts s)
     where
@@ -244,15 +258,18 @@ module _ (p : Program) (items : List Item) (settings : Settings) (r : Record) (h
       grown begun b d (inr other) = rw (log-of_slot settings begun d other, log-of_slot settings r d other)
           (map lifted (b.logs d).0, ap (map lifted) (b.logs d).1 ∙ lifted-append (log_of (part_at begun d)) (b.logs d).0)
 
+  -- the part of a slot is there
   slot-there : (slot : ℕ) → slot < settings.contexts → slice_get (kept_of r).slots slot ≡ Some (slot_kept (part_at r slot))
   slot-there slot lt = kept-there r slot (subst (λ n. slot < n) (sym h.count) lt)
 
+  -- past the slots there is none
   slot-past : (slot : ℕ) → settings.contexts ≤ slot → slice_get (kept_of r).slots slot ≡ None
   slot-past slot le =
       let count = h.count in
       let same = length-map r.contexts slot_kept in
       slice_get_past (kept_of r).slots slot (omega arith)
 
+  -- each part is that of naive evaluation
   slots-naive : (slot : ℕ) → IfSome (slice_get (kept_of r).slots slot) (kept.IsNaive (slots_of p settings) shown slot)
   slots-naive slot = go (cases_lt slot settings.contexts)
     where
@@ -260,6 +277,7 @@ module _ (p : Program) (items : List Item) (settings : Settings) (r : Record) (h
       go (inl lt) = rw (slot-there slot lt) (context-naive p settings slot (part_at r slot) (h.contexts slot lt))
       go (inr le) = rw (slot-past slot le) tt
 
+  -- each part is that of a run that has ended
   slots-ended : (slot : ℕ) → IfSome (slice_get (kept_of r).slots slot) (kept.IsSlotEnded settings.contexts (slots_of p settings) slot)
   slots-ended slot = go (cases_lt slot settings.contexts)
     where

@@ -16,14 +16,17 @@ IsCargo (inr i) = ⊥
 abbrev pub AllCargo : {C I : Type 0} → List (Entry (C ⊎ I)) → Type 0
 AllCargo {C} {I} es = AllByRecursion (λ (e : Entry (C ⊎ I)). IsCargo e.cargo) es
 
+-- two lists of cargoes
 pub all-append : {C I : Type 0} (xs ys : List (Entry (C ⊎ I))) → AllCargo xs → AllCargo ys → AllCargo (xs ++ ys)
 all-append [] ys a b = b
 all-append (x ∷ xs) ys a b = (a.0, all-append xs ys a.1 b)
 
+-- the second of two lists
 pub all-back : {C I : Type 0} (xs ys : List (Entry (C ⊎ I))) → AllCargo (xs ++ ys) → AllCargo ys
 all-back [] ys a = a
 all-back (x ∷ xs) ys a = all-back xs ys a.1
 
+-- the first of two lists
 pub all-front : {C I : Type 0} (xs ys : List (Entry (C ⊎ I))) → AllCargo (xs ++ ys) → AllCargo xs
 all-front [] ys a = tt
 all-front (x ∷ xs) ys a = (a.0, all-front xs ys a.1)
@@ -53,6 +56,7 @@ all-by {C} {I} (e ∷ es) h = (here (e.sender == e.sender) refl (h e.sender), al
     rest s true a = a.1
     rest s false a = a
 
+-- what is sent of cargoes
 pub all-mail : {C : Type 0} (I : Type 0) (s n d : ℕ) (xs : List (Sent C)) → AllCargo {C = C} {I = I} (mail s n d (map lifted_sent xs))
 all-mail I s n d [] = tt
 all-mail {C} I s n d (x ∷ xs) = go (all-mail I s n d xs) (x.target == d)
@@ -69,16 +73,19 @@ module _ {S R C I : Type 0} (contexts : ℕ) (A : Slots S C) (B : Reader R C I) 
   one-all s d n (inr r) e (inl x) i = rw i tt
   one-all s d n (inr r) e (inr x) i = rw i (all-mail I s n d (slots_only contexts (B.item_sent r x)))
 
+  -- it sends nothing past the actors
   one-past : (s d n : ℕ) (state : S ⊎ R) (e : Entry (C ⊎ I)) (k : C ⊎ I) → e.cargo ≡ k → contexts < d → mail s n d (actor_sent contexts A B state n e) ≡ []
   one-past s d n (inl c) e (inl x) i lt = rw i (mail-to_actors_none contexts s n d (A.sent c n (carrying e x)) lt)
   one-past s d n (inl c) e (inr x) i lt = rw i refl
   one-past s d n (inr r) e (inl x) i lt = rw i refl
   one-past s d n (inr r) e (inr x) i lt = rw i (mail-to_slots_none contexts s n d (B.item_sent r x) (omega arith))
 
+  -- so handlings send cargoes
   pub replies-all : (s d : ℕ) (m : Moment (S ⊎ R)) (log : List (Entry (C ⊎ I))) → AllCargo (replies (joined contexts A B) s d m log)
   replies-all s d m [] = tt
   replies-all s d m (e ∷ es) = all-append (reply (joined contexts A B) s d m e) (replies (joined contexts A B) s d (next (joined contexts A B) m e) es) (one-all s d (number_after m.number e) m.state e e.cargo refl) (replies-all s d (next (joined contexts A B) m e) es)
 
+  -- and nothing past the actors
   pub replies-past : (s d : ℕ) (m : Moment (S ⊎ R)) (log : List (Entry (C ⊎ I))) → contexts < d → replies (joined contexts A B) s d m log ≡ []
   replies-past s d m [] lt = refl
   replies-past s d m (e ∷ es) lt =

@@ -27,22 +27,27 @@ abbrev numbered : ℕ → List (Entry Cargo) → List (Handled Cargo)
 numbered last [] = []
 numbered last (e ∷ es) = (record { entry = e; number = number_after last e }) ∷ numbered (number_after last e) es
 
+-- entries taken by the reader under their numbers
 abbrev pub taken : ℕ → List (Entry Cargo) → List (ReaderStep Item Cargo)
 taken last [] = []
 taken last (e ∷ es) = step.Entry e (number_after last e) ∷ taken (number_after last e) es
 
+-- their entries are these
 numbered-entries : (last : ℕ) (es : List (Entry Cargo)) → map kept.entry_of (numbered last es) ≡ es
 numbered-entries last [] = refl
 numbered-entries last (e ∷ es) = ap (λ xs. e ∷ xs) (numbered-entries (number_after last e) es)
 
+-- their numbers are those of a log
 numbered-numbers : (last : ℕ) (es : List (Entry Cargo)) → map kept.number_of (numbered last es) ≡ numbers_along last es
 numbered-numbers last [] = refl
 numbered-numbers last (e ∷ es) = ap (λ ns. number_after last e ∷ ns) (numbered-numbers (number_after last e) es)
 
+-- the entries of such steps are these
 taken-entries : (k last : ℕ) (es : List (Entry Cargo)) → map (step_entry k) (taken last es) ≡ map lifted es
 taken-entries k last [] = refl
 taken-entries k last (e ∷ es) = ap (λ (xs : List (Entry (Cargo ⊎ Item))). lifted e ∷ xs) (taken-entries k (number_after last e) es)
 
+-- their numbers are those of a log
 taken-numbers : (k last : ℕ) (es : List (Entry Cargo)) → map step_number (taken last es) ≡ numbers_along last (map (step_entry k) (taken last es))
 taken-numbers k last [] = refl
 taken-numbers k last (e ∷ es) = ap (λ ns. number_after last e ∷ ns) (taken-numbers k (number_after last e) es)
@@ -52,10 +57,12 @@ abbrev parts : (ℕ → ContextRecord) → ℕ → ℕ → List ContextRecord
 parts part slot zero = []
 parts part slot (suc n) = part slot ∷ parts part (suc slot) n
 
+-- there are so many
 parts-length : (part : ℕ → ContextRecord) (slot n : ℕ) → length (parts part slot n) ≡ n
 parts-length part slot zero = refl
 parts-length part slot (suc n) = ap suc (parts-length part (suc slot) n)
 
+-- the part at a place
 parts-at : (part : ℕ → ContextRecord) (slot n k : ℕ) → k < n → slice_get (parts part slot n) k ≡ Some (part (slot + k))
 parts-at part slot zero k lt = absurd (omega arith)
 parts-at part slot (suc n) zero lt = let same : slot ≡ slot + 0 = omega arith in ap (λ s. Some (part s)) same
@@ -66,6 +73,7 @@ module _ (p : Program) (settings : Settings) (boot : World (Cargo ⊎ Item)) whe
   abbrev lefts : ℕ → List (Entry (Cargo ⊎ Item))
   lefts d = left_of (actors_of p settings) boot d
 
+  -- the part of a slot
   abbrev boot_part : ℕ → ContextRecord
   boot_part slot = record {
     lines = (naive p settings slot (cargoes (boot.log slot))).lines;
@@ -78,14 +86,17 @@ module _ (p : Program) (settings : Settings) (boot : World (Cargo ⊎ Item)) whe
   abbrev pub boot_record : Record
   boot_record = record { settings = settings; contexts = parts boot_part 0 settings.contexts; reader = record { steps = taken 0 (cargoes (boot.log settings.contexts)); left = cargoes (lefts settings.contexts) } }
 
+  -- it has a part for each slot
   pub boot-count : length boot_record.contexts ≡ settings.contexts
   boot-count = parts-length boot_part 0 settings.contexts
 
+  -- the part of a slot is there
   slot-here : (d : ℕ) → d < settings.contexts → slice_get (kept_of boot_record).slots d ≡ Some (slot_kept (boot_part d))
   slot-here d lt =
       let same : 0 + d ≡ d = omega arith in
       slice_get-map slot_kept (parts boot_part 0 settings.contexts) d ∙ ap (option_map slot_kept) (parts-at boot_part 0 settings.contexts d lt ∙ ap (λ s. Some (boot_part s)) same)
 
+  -- past the slots there is none
   slot-past : (d : ℕ) → settings.contexts ≤ d → slice_get (kept_of boot_record).slots d ≡ None
   slot-past d le = let count = parts-length boot_part 0 settings.contexts in slice_get-map slot_kept (parts boot_part 0 settings.contexts) d ∙ ap (option_map slot_kept) (slice_get_past (parts boot_part 0 settings.contexts) d (omega arith))
 
@@ -96,9 +107,11 @@ module _ (p : Program) (settings : Settings) (boot : World (Cargo ⊎ Item)) whe
       let P : List (Entry (Cargo ⊎ Item)) → Type 0 = AllCargo in
       all-by (boot.log d ++ boot.queue d) (λ s. subst P (sym (run.each s d)) (sends-all settings.contexts (slots_of p settings) (reader_of p) s d (boot.log s)))
 
+  -- no entry of a log is lost
   pub log-kept : IsBoot (actors_of p settings) boot → (d : ℕ) → map lifted (cargoes (boot.log d)) ≡ boot.log d
   log-kept h d = all-lifted (boot.log d) (all-front (boot.log d) (boot.queue d) (boot-all h d))
 
+  -- cargoes by sender are cargoes
   ordered-all : (n : ℕ) (q : List (Entry (Cargo ⊎ Item))) → AllCargo q → AllCargo (ordered n q)
   ordered-all zero q a = tt
   ordered-all (suc n) q a = all-append (ordered n q) (by n q) (ordered-all n q a) (by-all n q a)
@@ -111,6 +124,7 @@ module _ (p : Program) (settings : Settings) (boot : World (Cargo ⊎ Item)) whe
           here ih true = (a.0, ih)
           here ih false = ih
 
+  -- nothing that is left is lost
   left-kept : IsBoot (actors_of p settings) boot → (d : ℕ) → map lifted (cargoes (lefts d)) ≡ lefts d
   left-kept h d = all-lifted (lefts d) (ordered-all (suc settings.contexts) (boot.queue d) (all-back (boot.log d) (boot.queue d) (boot-all h d)))
 
@@ -144,6 +158,7 @@ module _ (p : Program) (settings : Settings) (boot : World (Cargo ⊎ Item)) whe
         spent = ap (λ (c : Context). c.spent) (after-same p settings (fresh d settings.contexts settings.fuel) 0 log) ∙ ap (λ l. (slot_after A (A.start d) 0 l).spent) (sym entries);
       }
 
+  -- so does the whole record
   boot-naive : kept.IsNaiveKept settings.contexts (slots_of p settings) shown (kept_of boot_record)
   boot-naive = record {
     count = length-map (parts boot_part 0 settings.contexts) slot_kept ∙ parts-length boot_part 0 settings.contexts;
@@ -155,6 +170,7 @@ module _ (p : Program) (settings : Settings) (boot : World (Cargo ⊎ Item)) whe
       there d (inl lt) = rw (slot-here d lt) (slot-naive d)
       there d (inr le) = rw (slot-past d le) tt
 
+  -- the logs of the record are those of boot
   pub boot-logs : IsBoot (actors_of p settings) boot → (d : ℕ) → (kept.world_of_kept settings.contexts (kept_of boot_record)).log d ≡ boot.log d
   boot-logs h d = go (cases_lt d settings.contexts)
     where
@@ -168,6 +184,7 @@ module _ (p : Program) (settings : Settings) (boot : World (Cargo ⊎ Item)) whe
           past (inr other) =
               log-slot settings.contexts (kept_of boot_record) d other ∙ ap kept.slot_log (slot-past d le) ∙ sym ((boot-run (actors_of p settings) boot h).others d (omega arith))
 
+  -- and so is what is left
   boot-lefts : IsBoot (actors_of p settings) boot → (d : ℕ) → (kept.world_of_kept settings.contexts (kept_of boot_record)).queue d ≡ lefts d
   boot-lefts h d = go (cases_lt d settings.contexts)
     where

@@ -15,6 +15,7 @@ abbrev pub cargoes : {C I : Type 0} → List (Entry (C ⊎ I)) → List (Entry C
 cargoes [] = []
 cargoes (e ∷ es) = with_cargo e e.cargo (cargoes es)
 
+-- of two lists
 pub cargoes-append : {C I : Type 0} (xs ys : List (Entry (C ⊎ I))) → cargoes (xs ++ ys) ≡ cargoes xs ++ cargoes ys
 cargoes-append [] ys = refl
 cargoes-append {C} {I} (x ∷ xs) ys = go (cargoes-append xs ys) x.cargo
@@ -23,10 +24,12 @@ cargoes-append {C} {I} (x ∷ xs) ys = go (cargoes-append xs ys) x.cargo
     go ih (inl c) = ap (λ es. carrying x c ∷ es) ih
     go ih (inr i) = ih
 
+-- of cargoes alone they are all
 pub cargoes-lifted : {C : Type 0} (I : Type 0) (es : List (Entry C)) → cargoes {C = C} {I = I} (map lifted es) ≡ es
 cargoes-lifted I [] = refl
 cargoes-lifted I (e ∷ es) = ap (λ xs. e ∷ xs) (cargoes-lifted I es)
 
+-- those of a sender
 pub cargoes-by : {C I : Type 0} (s : ℕ) (es : List (Entry (C ⊎ I))) → cargoes (by s es) ≡ by s (cargoes es)
 cargoes-by s [] = refl
 cargoes-by {C} {I} s (e ∷ es) = go (cargoes-by s es) (e.sender == s) refl e.cargo refl

@@ -15,15 +15,19 @@ use Rattle.naive_meaning.proofs.Sending.{context-sent, reader-sent}
 abbrev pub world_of : Settings → Record → World (Cargo ⊎ Item)
 world_of settings r = world_of_kept settings.contexts (kept_of r)
 
+-- the log of a slot
 pub log-of_slot : (settings : Settings) (r : Record) (d : ℕ) → (d ≡ settings.contexts → ⊥) → (world_of settings r).log d ≡ map lifted (log_of (part_at r d))
 log-of_slot settings r d other = log-slot settings.contexts (kept_of r) d other ∙ log-at r.contexts d
 
+-- what is left for a slot
 pub queue-of_slot : (settings : Settings) (r : Record) (d : ℕ) → (d ≡ settings.contexts → ⊥) → (world_of settings r).queue d ≡ map lifted (part_at r d).left
 queue-of_slot settings r d other = queue-slot settings.contexts (kept_of r) d other ∙ left-at r.contexts d
 
+-- what the reader has received
 pub received-reader : (settings : Settings) (r : Record) → received settings r settings.contexts ≡ entries_of r.reader.steps ++ r.reader.left
 received-reader settings r = rw (eq-eqb settings.contexts settings.contexts refl) refl
 
+-- what a context has received
 pub received-slot : (settings : Settings) (r : Record) (d : ℕ) → (d ≡ settings.contexts → ⊥) → received settings r d ≡ log_of (part_at r d) ++ (part_at r d).left
 received-slot settings r d other = rw (ne_eqb d settings.contexts other) refl
 
@@ -70,6 +74,7 @@ sends-same p items settings r s d h le = go (s == settings.contexts) refl
         let other : s ≡ k → ⊥ = eqb-false s k i in
         ap (λ l. cargoes (all_sends (actors_of p settings) (map inr items) s d l)) (log-of_slot settings r s other) ∙ context-sent p items settings s d (log_of (part_at r s)) other le
 
+-- the senders of cargoes are among all senders
 pub all-cargoes : (n : ℕ) (xs : List (Entry (Cargo ⊎ Item))) → AllByRecursion (λ e. e.sender ≤ n) xs → AllByRecursion (λ e. e.sender ≤ n) (cargoes xs)
 all-cargoes n [] h = tt
 all-cargoes n (x ∷ xs) h = go (all-cargoes n xs h.1) x.cargo

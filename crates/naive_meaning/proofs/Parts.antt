@@ -15,6 +15,7 @@ part-there [] slot other lt = absurd (omega arith)
 part-there (c ∷ cs) zero other lt = refl
 part-there (c ∷ cs) (suc slot) other lt = part-there cs slot other (omega arith)
 
+-- and so for the record
 pub kept-there : (r : Record) (slot : ℕ) → slot < length r.contexts → slice_get (kept_of r).slots slot ≡ Some (slot_kept (part_at r slot))
 kept-there r slot lt = slice_get-map slot_kept r.contexts slot ∙ ap (option_map slot_kept) (part-there r.contexts slot (part_at r (length r.contexts)) lt) ∙ same r.contexts slot (part_at r (length r.contexts)) (record { lines = []; handled = []; left = []; spent = false }) lt
   where
@@ -35,6 +36,7 @@ log-past [] slot le = refl
 log-past (c ∷ cs) zero le = absurd (omega arith)
 log-past (c ∷ cs) (suc slot) le = log-past cs slot (omega arith)
 
+-- what is left for the slot
 pub left-at : (cs : List ContextRecord) (slot : ℕ) → kept.slot_left {I = Item} (slice_get (map slot_kept cs) slot) ≡ map lifted (get_or cs slot (record { lines = []; handled = []; left = []; spent = false })).left
 left-at [] slot = refl
 left-at (c ∷ cs) zero = refl
@@ -50,6 +52,7 @@ pub handled-numbers : (last : ℕ) (hs : List (Handled Cargo)) → numbers last 
 handled-numbers last [] = refl
 handled-numbers last (h ∷ hs) = ap (λ ns. number_after last h.entry ∷ ns) (handled-numbers (number_after last h.entry) hs)
 
+-- and those of the steps
 pub steps-numbers : (k last : ℕ) (steps : List (ReaderStep Item Cargo)) → numbers last (map stamp_of steps) ≡ numbers_along last (map (step_entry k) steps)
 steps-numbers k last [] = refl
 steps-numbers k last (step.Item i n ∷ steps) = ap (λ ns. (1 + max last 0) ∷ ns) (steps-numbers k (1 + max last 0) steps)
@@ -67,6 +70,7 @@ unspent-before p settings c last (x ∷ xs) h (f ∷ front) rest e i =
     ap (λ (y : Entry Cargo). (after p (handle p c (number_after last y) y.cargo) (number_after last y) front).spent) (sym same)
     ∙ unspent-before p settings (handle p c (number_after last x) x.cargo) (number_after last x) xs h.1 front rest e others
 
+-- and the other way round
 pub before-unspent : (p : Program) (settings : Settings) (c : Context) (last : ℕ) (log : List (Entry Cargo)) → ((front rest : List (Entry Cargo)) (e : Entry Cargo) → log ≡ front ++ e ∷ rest → (after p c last front).spent ≡ false)
     → IsUnspentSlot (slots_of p settings) c last log
 before-unspent p settings c last [] h = tt

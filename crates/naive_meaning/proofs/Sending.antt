@@ -20,6 +20,7 @@ context-replies p settings s d le c last (e ∷ es) =
     let head : cargoes {C = Cargo} {I = Item} (mail s n d (to_actors settings.contexts sent)) ≡ mail s n d sent = ap (cargoes {C = Cargo} {I = Item}) (mail-to_actors settings.contexts s n d sent le) ∙ cargoes-lifted Item (mail s n d sent) in
     cargoes-append (mail s n d (to_actors settings.contexts sent)) rest ∙ ap (λ xs. xs ++ cargoes rest) head ∙ ap (λ xs. mail s n d sent ++ xs) (context-replies p settings s d le (handle p c n e.cargo) n es)
 
+-- what the items of the steps send
 reader-replies : (p : Program) (settings : Settings) (d last : ℕ) (steps : List (ReaderStep Item Cargo)) → map step_number steps ≡ numbers_along last (map (step_entry settings.contexts) steps)
     → cargoes (replies (actors_of p settings) settings.contexts d (reader_moment tt last) (map (step_entry settings.contexts) steps)) ≡ items_send settings d steps
 reader-replies p settings d last [] h = refl
@@ -38,11 +39,13 @@ reader-replies p settings d last (step.Entry e n ∷ steps) h =
     let rest : map step_number steps ≡ numbers_along (number_after last e) (map (step_entry settings.contexts) steps) = cc in
     reader-replies p settings d (number_after last e) steps rest
 
+-- all that a context sends of cargoes
 pub context-sent : (p : Program) (items : List Item) (settings : Settings) (s d : ℕ) (log : List (Entry Cargo)) → (s ≡ settings.contexts → ⊥) → d ≤ settings.contexts
     → cargoes (all_sends (actors_of p settings) (map inr items) s d (map lifted log)) ≡ context_sends p settings s d (fresh s settings.contexts settings.fuel) 0 log
 context-sent p items settings s d log other le =
     rw (ne_eqb s settings.contexts other) (context-replies p settings s d le (fresh s settings.contexts settings.fuel) 0 log)
 
+-- all that the reader sends of cargoes
 pub reader-sent : (p : Program) (items : List Item) (settings : Settings) (d : ℕ) (steps : List (ReaderStep Item Cargo)) → map step_number steps ≡ numbers_along 0 (map (step_entry settings.contexts) steps)
     → cargoes (all_sends (actors_of p settings) (map inr items) settings.contexts d (map (step_entry settings.contexts) steps))
     ≡ mail settings.contexts 0 d (slots_only settings.contexts (loads_below (length p.monitors))) ++ items_send settings d steps

@@ -31,6 +31,7 @@ context-words p settings slot c naive ended =
       nothing_left = ended.nothing_left;
     }
 
+-- one more step in front of both
 one-more : (e : Entry Cargo) (m n : ℕ) (front whole : List (ReaderStep Item Cargo)) → m ≡ n → IsPrefix front whole → IsPrefix (step.Entry e n ∷ front) (step.Entry e m ∷ whole)
 one-more e m n front whole i h = (h.0, ap (λ j. step.Entry e j ∷ whole) i ∙ ap (λ xs. step.Entry e n ∷ xs) h.1)
 
