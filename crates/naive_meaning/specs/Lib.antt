@@ -1,3 +1,4 @@
 pub mod Common
 pub mod Actors
 pub mod Records
+pub mod Faithful
