@@ -7,7 +7,8 @@ use Rattle.outside.specs.Told.{Told, files_of}
 use Rattle.typed_program.specs.declared.program.Program.{Program}
 use Rattle.record_book.specs.declared.item.Item.{Item}
 use Rattle.record_book.specs.declared.record.Record.{Record}
-use Rattle.naive_meaning.specs.Records.{IsFaithful, IsScheduled}
+use Rattle.naive_meaning.specs.Faithful.{FaithfulRecord}
+use Rattle.naive_meaning.specs.Records.{IsScheduled}
 use Rattle.record_book.specs.Report.{report_of}
 use Rattle.run_face.specs.Words.{Named, named_files, settings_of}
 use Rattle.correlator_run.specs.declared.refusal.Refusal.{Refusal}
@@ -38,7 +39,7 @@ pub record IsRun (words : List (List ℕ)) (files : Option Files) (program : Pro
   pub is : named_files words ≡ Some named
   pub items : List Item
   pub input : IsOnlyInput files named program items
-  pub faithful : IsFaithful program items (settings_of named) kept
+  pub faithful : FaithfulRecord program items (settings_of named) kept
   pub scheduled : IsScheduled program items (settings_of named) [] kept
 
 -- a context of the record is spent

@@ -3,7 +3,8 @@ ghost use Rattle.actor_theory.specs.Language.{by};
 ghost use Rattle.actor_theory.specs.Order.{ordered};
 ghost use Rattle.typed_program.specs.Typed.{Typed};
 ghost use Rattle.record_book.specs.Fits.{ItemsFit};
-ghost use Rattle.naive_meaning.specs.Records.{IsFaithful, IsScheduled};
+ghost use Rattle.naive_meaning.specs.Faithful.{FaithfulRecord};
+ghost use Rattle.naive_meaning.specs.Records.{IsScheduled};
 ghost use Rattle.world_serial.specs.Queued.{but, first_queue, records_of};
 ghost use Rattle.world_serial.specs.Serial.{record_of_world};
 
@@ -123,7 +124,7 @@ pub fn run(
     requires fuel { settings.fuel < 2 ^ 64 - 1 }
     requires monitors { length program.now.monitors ≤ 65535 }
     ensures scheduled { IfOk result (λ r. IsScheduled program.now items settings [] r) }
-    ensures faithful { IfOk result (λ r. IsFaithful program.now items settings r) }
+    ensures faithful { IfOk result (λ r. FaithfulRecord program.now items settings r) }
 {
     let mut world = boot(alloc, program, items, settings)?;
     run_rounds(&mut world, program, settings, true)?;
