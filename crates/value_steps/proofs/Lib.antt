@@ -4,6 +4,7 @@ pub mod Called
 pub mod Cutting
 pub mod Emptying
 pub mod Following
+pub mod Halving
 pub mod Kept
 pub mod Leaving
 pub mod Left
