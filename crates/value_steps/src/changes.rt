@@ -12,7 +12,7 @@ use crate::reading::{integer, natural};
 use crate::trouble::Trouble;
 use action_host::Fault;
 use body_meaning::Move;
-use epl_values::{Blocks, Items, List, Pair, Pairs, Value, Values};
+use epl_values::{Items, List, Pair, Pairs, Value, Values};
 use std::alloc::Global;
 use std::mem;
 use typed_program::Method;
@@ -40,7 +40,7 @@ fn clear(alloc: Global, value: &mut Value) -> Result<(), Trouble>
 {
     match value {
         Value::Sequence(items) => {
-            *items = Blocks::new(alloc);
+            *items = Items::new(alloc);
             Ok(())
         }
         Value::Dictionary(pairs) => {

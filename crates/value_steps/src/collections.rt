@@ -4,7 +4,7 @@ ghost use Rattle.epl_values.specs.Order.{order_of};
 ghost use Rattle.body_meaning.specs.Methods.{keys_of, place_number, place_of, size_of};
 ghost use Rattle.body_meaning.specs.Values.{is_equal, items_of, pairs_of};
 
-use epl_values::{Blocks, Items, Pairs, Value, copy};
+use epl_values::{Items, Pairs, Value, copy};
 use std::alloc::{AllocError, Global};
 use std::cmp::Ordering;
 use value_rules::order;
@@ -61,7 +61,7 @@ pub fn size_of(value: &Value) -> Value
 fn copy_keys(alloc: Global, pairs: &Pairs) -> Result<Items, AllocError>
     ensures { IfOk result (λ keys. keys ≡ map (λ pair. pair.key) pairs.now) }
 {
-    let mut keys = Blocks::new(alloc);
+    let mut keys = Items::new(alloc);
     for at in 0..pairs.len() {
         keys.push(copy(alloc, &pairs.get(at).key)?)?;
     }
@@ -74,6 +74,6 @@ pub fn keys_of(alloc: Global, value: &Value) -> Result<Value, AllocError>
 {
     match value {
         Value::Dictionary(pairs) => Ok(Value::Sequence(copy_keys(alloc, pairs)?)),
-        _ => Ok(Value::Sequence(Blocks::new(alloc))),
+        _ => Ok(Value::Sequence(Items::new(alloc))),
     }
 }

@@ -4,7 +4,7 @@ ghost use Rattle.body_meaning.specs.Effects.{deadline_leaves, emptied, starting,
 ghost use Rattle.value_steps.specs.Emptied.{emptied_entry};
 ghost use Rattle.value_steps.specs.Orderly.{AreOrderly, AreOrderlyPairs, IsOrderly};
 
-use epl_values::{Blocks, Items, List, Pair, Pairs, Text, Value, Values};
+use epl_values::{Items, List, Pair, Pairs, Text, Value, Values};
 use std::alloc::{AllocError, Global};
 use typed_program::{Term, Terms};
 
@@ -46,7 +46,7 @@ fn emptied_items(alloc: Global, items: &Items) -> Result<Items, AllocError>
     requires { AreOrderly items.now }
     ensures { IfOk result (λ v. v ≡ map emptied items.now) }
 {
-    let mut copies = Blocks::new(alloc);
+    let mut copies = Items::new(alloc);
     for at in 0..items.len() {
         copies.push(emptied(alloc, items.get(at))?)?;
     }
