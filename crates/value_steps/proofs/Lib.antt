@@ -9,5 +9,6 @@ pub mod Kept
 pub mod Leaving
 pub mod Left
 pub mod Parted
+pub mod Placing
 pub mod Scalars
 pub mod StillOrderly

@@ -1,4 +1,4 @@
-use Rattle.std.proofs.Common.{◌≡◌, rules, subst, sym, ◌∙◌}
+use Rattle.std.proofs.Common.{◌≡◌, ◌<◌, length, rules, subst, sym, ◌∙◌}
 use Rattle.epl_values.specs.declared.value.Value.{the_lemmas}
 use Rattle.epl_values.specs.Order.{KeysAscend}
 use Rattle.value_steps.specs.Orderly.{AreOrderly, AreOrderlyPairs}
@@ -23,7 +23,11 @@ emptied-emptied_values-requires t c =
     search (rules, the_lemmas)
 
 pub emptied_pairs-push-requires : goal.emptied_pairs-push-requires
-emptied_pairs-push-requires t c = next_ascends c.loop-at.copies c.args.pairs.now c.loop-at.at c.in_ok-key.key c.in_ok-value.value c.get-pair.result.now c.loop-at.invariant c.get-pair.requires c.get-pair.ensures.read c.in_ok-key.ensures c.in_ok-value.ensures c.requires.order
+emptied_pairs-push-requires t c =
+    let inside : c.loop-at.at < length c.args.pairs.now = search rules in
+    next_ascends c.loop-at.copies c.args.pairs.now c.loop-at.at c.in_ok-key.key c.in_ok-value.value c.get-pair.result.now c.loop-at.invariant inside c.get-pair.ensures.read c.in_ok-key.ensures c.in_ok-value.ensures c.requires.order
 
 pub emptied_pairs-loop-at-preserved : goal.emptied_pairs-loop-at-preserved
-emptied_pairs-loop-at-preserved t c = c.in_ok-push.ensures.ok ∙ next_is c.loop-at.copies c.args.pairs.now c.loop-at.at c.in_ok-key.key c.in_ok-value.value c.get-pair.result.now c.loop-at.invariant c.get-pair.requires c.get-pair.ensures.read c.in_ok-key.ensures c.in_ok-value.ensures
+emptied_pairs-loop-at-preserved t c =
+    let inside : c.loop-at.at < length c.args.pairs.now = search rules in
+    c.in_ok-push.ensures.ok ∙ next_is c.loop-at.copies c.args.pairs.now c.loop-at.at c.in_ok-key.key c.in_ok-value.value c.get-pair.result.now c.loop-at.invariant inside c.get-pair.ensures.read c.in_ok-key.ensures c.in_ok-value.ensures
