@@ -14,12 +14,12 @@ pub returns-else-at-len-clause-value : goal.returns-else-at-len-clause-value
 returns-else-at-len-clause-value c =
     let many = c.len.ensures.count in
     elim c.else-at-len.branch [
-    | else-at-len-via-then-at-len+else-is_key w ↦
-        let test = w.if-at-len.true in
-        let inside : c.count_before-at.result < length c.args.pairs.now = omega (arith, many, test) in
-        placed_err c.args.key.now c.args.pairs.now c.count_before-at.result w.get.result.now c.count_before-at.ensures.count inside w.get.ensures.read (sym w.is_key.ensures ∙ w.if-is_key.false)
-    | else-at-len-via-else-at-len w ↦
-        let test = w.if-at-len.false in
-        let past : length c.args.pairs.now ≤ c.count_before-at.result = omega (arith, many, test) in
-        placed_end c.args.key.now c.args.pairs.now c.count_before-at.result c.count_before-at.ensures.count past
-  ]
+      | else-at-len-via-then-at-len+else-is_key w ↦
+          let test = w.if-at-len.true in
+          let inside : c.count_before-at.result < length c.args.pairs.now = omega (arith, many, test) in
+          placed_err c.args.key.now c.args.pairs.now c.count_before-at.result w.get.result.now c.count_before-at.ensures.count inside w.get.ensures.read (sym w.is_key.ensures ∙ w.if-is_key.false)
+      | else-at-len-via-else-at-len w ↦
+          let test = w.if-at-len.false in
+          let past : length c.args.pairs.now ≤ c.count_before-at.result = omega (arith, many, test) in
+          placed_end c.args.key.now c.args.pairs.now c.count_before-at.result c.count_before-at.ensures.count past
+    ]
