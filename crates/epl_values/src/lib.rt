@@ -6,8 +6,9 @@ mod shape;
 mod text;
 mod value;
 
+pub use blocks::{Blocks, Ordered, Ranked};
 pub use bytes::Bytes;
-pub use lists::{List, Memory, Ordered, Ranked};
+pub use lists::{List, Memory};
 pub use shape::{EventShape, EventShapes, Field, Fields, Shape, Shapes, copy_shape, same_shape};
 pub use text::{Text, Texts};
-pub use value::{Pair, Pairs, Value, Values, copy};
+pub use value::{Items, Pair, Pairs, Value, Values, copy};

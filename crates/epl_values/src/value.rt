@@ -1,7 +1,8 @@
 ghost use Rattle.std.specs.Prelude.{◌≡◌, [], ◌∷◌, ◌++◌, IfOk};
 
 use crate::Text;
-use lists::{List, Ordered, Ranked};
+use blocks::{Blocks, Ordered, Ranked};
+use lists::List;
 use std::alloc::{AllocError, Global};
 
 /// A value of the language.
@@ -11,7 +12,7 @@ pub enum Value {
     Integer(i64),
     Boolean(bool),
     Text(Text),
-    Sequence(Values),
+    Sequence(Items),
     Dictionary(Pairs),
     /// The number of its event type, and its fields in order.
     Event(u16, Values),
@@ -31,8 +32,11 @@ pub struct Pair {
     pub value: Value,
 }
 
-/// Values, in order.
+/// A few values, in order, as the fields of an event.
 pub type Values = List<Value>;
+
+/// The elements of a sequence, in order.
+pub type Items = Blocks<Value>;
 
 /// The entries of a dictionary, in ascending order of keys, each once.
 pub type Pairs = Ordered<Pair>;
@@ -52,7 +56,7 @@ pub fn copy(alloc: Global, value: &Value) -> Result<Value, AllocError>
         Value::Integer(number) => Ok(Value::Integer(*number)),
         Value::Boolean(is) => Ok(Value::Boolean(*is)),
         Value::Text(text) => Ok(Value::Text(Text::of(alloc, text.as_str())?)),
-        Value::Sequence(items) => Ok(Value::Sequence(copy_values(alloc, items.as_slice())?)),
+        Value::Sequence(items) => Ok(Value::Sequence(copy_items(alloc, items)?)),
         Value::Dictionary(pairs) => Ok(Value::Dictionary(copy_pairs(alloc, pairs)?)),
         Value::Event(number, fields) => {
             Ok(Value::Event(*number, copy_values(alloc, fields.as_slice())?))
@@ -75,11 +79,23 @@ fn copy_values(alloc: Global, values: &[Value]) -> Result<Values, AllocError>
 }
 
 #[cycle(copies)]
+fn copy_items(alloc: Global, items: &Items) -> Result<Items, AllocError>
+    ensures { IfOk result (λ v. v ≡ items.now) }
+{
+    let mut copies = Blocks::new(alloc);
+    for at in 0..items.len() {
+        copies.push(copy(alloc, items.get(at))?)?;
+    }
+    Ok(copies)
+}
+
+#[cycle(copies)]
 fn copy_pairs(alloc: Global, pairs: &Pairs) -> Result<Pairs, AllocError>
     ensures { IfOk result (λ v. v ≡ pairs.now) }
 {
-    let mut copies = Vec::new(alloc);
-    for pair in pairs.as_slice() {
+    let mut copies = Blocks::new(alloc);
+    for at in 0..pairs.len() {
+        let pair = pairs.get(at);
         let key = copy(alloc, &pair.key)?;
         let value = copy(alloc, &pair.value)?;
         copies.push(Pair { key, value })?;

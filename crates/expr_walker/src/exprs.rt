@@ -20,7 +20,7 @@ ghost use Rattle.expr_walker.specs.Means.{value_by, reach_by, link_by, entry_by,
 use action_host::{Fault, Host};
 use body_meaning::Move;
 use calm_exprs::{all_calm, calm};
-use epl_values::{Pairs, Text, Value, Values};
+use epl_values::{Items, Pairs, Text, Value, Values};
 use lists::List;
 use path_bases::{
     Base, Got, Gots, global, global_base, held_unless, local, local_base, settle, stepped,
@@ -123,8 +123,8 @@ impl<
                 Ok(Value::Event(*n, values))
             }
             TypedNode::Sequence(items) => {
-                let values = self.values(items.as_slice(), globals, host)?;
-                Ok(Value::Sequence(values))
+                let elements = self.elements(items.as_slice(), globals, host)?;
+                Ok(Value::Sequence(elements))
             }
             TypedNode::Dictionary(entries) => {
                 let pairs = self.entries(entries.as_slice(), globals, host)?;
@@ -284,6 +284,26 @@ impl<
             values.push(value)?;
         }
         Ok(values)
+    }
+
+    /// The values of expressions, from left to right, as the elements of a sequence.
+    #[cycle(walk)]
+    fn elements(
+        &self,
+        es: &[TypedExpr],
+        globals: &mut Values,
+        host: &mut H,
+    ) -> Result<Items, Stop>
+        requires ready { IsReady H.told self.now.program.now self.now.depth (F.pre self.now.call) (F.post self.now.call) self.now.locals.now }
+        requires globals { AreOrderly globals.old }
+        ensures { Walked (H.told host.old) globals.old (H.told host.new) globals.new self.now.locals.now (all (map (value_by self.now.program.now self.now.depth) es.now)) AreOrderly result }
+    {
+        let mut elements = Items::new(self.alloc);
+        for e in es {
+            let value = self.value(e, globals, host)?;
+            elements.push(value)?;
+        }
+        Ok(elements)
     }
 
     #[cycle(walk)]

@@ -1,2 +1,1 @@
 pub mod list
-pub mod ordered

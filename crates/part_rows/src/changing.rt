@@ -1,4 +1,4 @@
-use crate::reader::{DEPTH, Reader};
+use crate::reader::{DEPTH, Reader, as_elements};
 use crate::reading::{value_or_fault, with_births};
 use crate::values::shown;
 use anyhow::{Result, bail};
@@ -129,7 +129,7 @@ pub fn along(alloc: Global, types: &EventShapes, line: &mut Reader<'_>) -> Resul
     let arguments = line.sequence(alloc, types)?;
     let globals = line.sequence(alloc, types)?;
     let taken = taken_along(alloc, &arguments, &globals)?;
-    with_births(alloc, types, &Value::Sequence(taken))
+    with_births(alloc, types, &Value::Sequence(as_elements(alloc, taken)?))
 }
 
 fn wait(alloc: Global) -> Result<Boxed<Term>, AllocError> {

@@ -1,10 +1,10 @@
-ghost use Rattle.std.specs.Prelude.{IfOk, IfSome, OnOk};
+ghost use Rattle.std.specs.Prelude.{◌≡◌, IfOk, IfSome, OnOk};
 ghost use Rattle.epl_values.specs.Order.{KeysAscend};
 ghost use Rattle.value_steps.specs.Orderly.{AreOrderly, AreOrderlyMoves, AreOrderlyPairs, IsOrderly, IsOrderlyMove};
 
 use anyhow::{Result, bail, ensure};
 use body_meaning::Move;
-use epl_values::{EventShapes, List, Pairs, Shape, Text, Value, Values};
+use epl_values::{EventShapes, Items, List, Pairs, Shape, Text, Value, Values};
 use evt_text::{behind_blanks, value_at};
 use sqlite_items::Boxed;
 use std::alloc::{AllocError, Global};
@@ -142,7 +142,7 @@ impl<'t> Reader<'t> {
         self.rest = behind_blanks(self.rest);
         if self.sign("[") {
             let items = self.values(alloc, types, "]", depth - 1)?;
-            return Ok(Value::Sequence(items));
+            return Ok(Value::Sequence(as_elements(alloc, items)?));
         }
         if self.sign("{") {
             let pairs = self.pairs(alloc, types, depth - 1)?;
@@ -307,6 +307,17 @@ impl<'t> Reader<'t> {
         }
         bail!("no shape")
     }
+}
+
+/// Values as the elements of a sequence.
+pub fn as_elements(alloc: Global, values: Values) -> Result<Items, AllocError>
+    ensures { IfOk result (λ items. items ≡ values) }
+{
+    let mut items = Items::new(alloc);
+    for value in values.into_vec() {
+        items.push(value)?;
+    }
+    Ok(items)
 }
 
 /// Puts a value at a key, where all is in order.

@@ -30,8 +30,8 @@ pub fn with_births(alloc: Global, types: &EventShapes, value: &Value) -> Result<
     text.push_str(" births")?;
     match value {
         Value::Sequence(items) => {
-            for item in items.as_slice() {
-                write!(text, " {}", birth(item))?;
+            for at in 0..items.len() {
+                write!(text, " {}", birth(items.get(at)))?;
             }
         }
         _ => write!(text, " {}", birth(value))?,

@@ -1,7 +1,7 @@
 use crate::reader::Reader;
 use crate::values::shown;
 use anyhow::{Result, bail, ensure};
-use epl_values::{EventShapes, Shape, Text, Value, Values};
+use epl_values::{EventShapes, Items, Shape, Text, Value};
 use evt_text::{TextFault, behind_blanks, value_at};
 use span_text::{lines_of, spot_at};
 use std::alloc::Global;
@@ -24,7 +24,7 @@ pub fn lines(alloc: Global, types: &EventShapes, line: &mut Reader<'_>) -> Resul
     let text = line.text(alloc)?;
     let text = text.as_str();
     ensure!(text.len() < 4_294_967_295, "a long text");
-    let mut lines = Values::new(alloc);
+    let mut lines = Items::new(alloc);
     for line in lines_of(text) {
         lines.push(Value::Text(Text::of(alloc, line)?))?;
     }

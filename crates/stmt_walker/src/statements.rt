@@ -18,7 +18,7 @@ ghost use Rattle.stmt_walker.specs.Singles.{effect_by, single_by};
 use crate::changing::{ChangeIn, change_in};
 use action_host::{Fault, Host};
 use body_meaning::{Flow, Halt, Move};
-use epl_values::{Value, Values};
+use epl_values::{Items, Value, Values};
 use expr_walker::Walker;
 use lists::List;
 use path_bases::{Gots, local};
@@ -309,7 +309,7 @@ impl<
         locals: &Gots<'_>,
         globals: &mut Values,
         host: &mut H,
-    ) -> Result<Values, Stop>
+    ) -> Result<Items, Stop>
         requires calls { CallsBy H.told self.now.program.now self.now.depth (F.pre self.now.call) (F.post self.now.call) }
         requires globals { AreOrderly globals.old }
         requires locals { AreOrderly (values_in locals.now) }
@@ -328,7 +328,7 @@ impl<
         &self,
         parts: &[Stmt],
         n: u16,
-        mut items: Values,
+        mut items: Items,
         locals: &mut Gots<'_>,
         globals: &mut Values,
         host: &mut H,
@@ -713,12 +713,12 @@ fn after_turn(flow: Flow) -> Option<Flow>
 }
 
 /// The elements of a sequence; another value has none.
-fn items_of(alloc: Global, value: Value) -> Values
+fn items_of(alloc: Global, value: Value) -> Items
     ensures { result ≡ items_of value }
 {
     match value {
         Value::Sequence(items) => items,
-        _ => List::new(alloc),
+        _ => Items::new(alloc),
     }
 }
 

@@ -1,7 +1,7 @@
 ghost use Rattle.std.specs.Prelude.{◌≡◌, ◌+◌, ◌-◌, ◌^◌, min, sum_by};
 ghost use Rattle.value_rules.specs.Costs.{cost_of, pair_cost};
 
-use epl_values::{Pair, Value};
+use epl_values::{Items, Pairs, Value};
 
 /// What a value costs, or the greatest number where that is more: 1, 1 more for each full 64 bytes of a text, and
 /// what its elements, keys, values or fields cost.
@@ -11,8 +11,8 @@ pub fn cost(value: &Value) -> u64
 {
     match value {
         Value::Text(text) => 1 + text.len() as u64 / 64,
-        Value::Sequence(items) => cost_with(items.as_slice()),
-        Value::Dictionary(pairs) => cost_with_pairs(pairs.as_slice()),
+        Value::Sequence(items) => cost_with_items(items),
+        Value::Dictionary(pairs) => cost_with_pairs(pairs),
         Value::Event(_, fields) => cost_with(fields.as_slice()),
         _ => 1,
     }
@@ -30,11 +30,23 @@ fn cost_with(parts: &[Value]) -> u64
 }
 
 #[cycle(costs)]
-fn cost_with_pairs(pairs: &[Pair]) -> u64
+fn cost_with_items(items: &Items) -> u64
+    ensures { result ≡ min (2 ^ 64 - 1) (1 + sum_by cost_of items.now) }
+{
+    let mut total: u64 = 1;
+    for at in 0..items.len() {
+        total = total.saturating_add(cost(items.get(at)));
+    }
+    total
+}
+
+#[cycle(costs)]
+fn cost_with_pairs(pairs: &Pairs) -> u64
     ensures { result ≡ min (2 ^ 64 - 1) (1 + sum_by pair_cost pairs.now) }
 {
     let mut total: u64 = 1;
-    for pair in pairs {
+    for at in 0..pairs.len() {
+        let pair = pairs.get(at);
         total = total
             .saturating_add(cost(&pair.key))
             .saturating_add(cost(&pair.value));

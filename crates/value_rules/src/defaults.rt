@@ -2,7 +2,7 @@ ghost use Rattle.std.specs.Prelude.{◌≡◌, map, slice_get, IfOk};
 ghost use Rattle.value_rules.specs.Defaults.{default_by, default_event, default_of};
 ghost use Rattle.event_types.specs.Types.{fields_of};
 
-use epl_values::{EventShapes, Field, List, Ordered, Shape, Text, Value, Values};
+use epl_values::{EventShapes, Field, Items, List, Pairs, Shape, Text, Value, Values};
 use std::alloc::{AllocError, Global};
 
 /// The value that a variable or field of this shape has at first.
@@ -25,8 +25,8 @@ fn default_within(
         Shape::Integer => Ok(Value::Integer(0)),
         Shape::Boolean => Ok(Value::Boolean(false)),
         Shape::Text => Ok(Value::Text(Text::new(alloc))),
-        Shape::Sequence(_) => Ok(Value::Sequence(List::new(alloc))),
-        Shape::Dictionary(_, _) => Ok(Value::Dictionary(Ordered::new(alloc))),
+        Shape::Sequence(_) => Ok(Value::Sequence(Items::new(alloc))),
+        Shape::Dictionary(_, _) => Ok(Value::Dictionary(Pairs::new(alloc))),
         Shape::Event(number) => default_event(alloc, *number, types, depth),
         Shape::Context => Ok(Value::NoContext),
         Shape::Listener => Ok(Value::Listener(0)),

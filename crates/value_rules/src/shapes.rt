@@ -2,7 +2,7 @@ ghost use Rattle.std.specs.Prelude.{◌≡◌, map, slice_get};
 ghost use Rattle.std.specs.List.{list_all};
 ghost use Rattle.value_rules.specs.Shapes.{event_fits, has, pair_has};
 
-use epl_values::{EventShapes, Pairs, Shape, Value, Values};
+use epl_values::{EventShapes, Items, Pairs, Shape, Value, Values};
 
 /// Whether a value has a shape over these event types.
 #[cycle(shapes)]
@@ -27,11 +27,11 @@ pub fn has_shape(types: &EventShapes, value: &Value, shape: &Shape) -> bool
 }
 
 #[cycle(shapes)]
-fn all_have(types: &EventShapes, items: &Values, element: &Shape) -> bool
+fn all_have(types: &EventShapes, items: &Items, element: &Shape) -> bool
     ensures { result ≡ list_all (λ part. part element.now) (map (has types.now) items.now) }
 {
-    for item in items.as_slice() {
-        if !has_shape(types, item, element) {
+    for at in 0..items.len() {
+        if !has_shape(types, items.get(at), element) {
             return false;
         }
     }
@@ -42,7 +42,8 @@ fn all_have(types: &EventShapes, items: &Values, element: &Shape) -> bool
 fn pairs_have(types: &EventShapes, pairs: &Pairs, key: &Shape, item: &Shape) -> bool
     ensures { result ≡ list_all (λ pair. pair key.now item.now) (map (pair_has types.now) pairs.now) }
 {
-    for pair in pairs.as_slice() {
+    for at in 0..pairs.len() {
+        let pair = pairs.get(at);
         if !has_shape(types, &pair.key, key) || !has_shape(types, &pair.value, item) {
             return false;
         }

@@ -3,7 +3,7 @@ ghost use Rattle.std.specs.Prelude.{◌≡◌, ◌++◌, map, slice_get, IfOk, O
 ghost use Rattle.std.specs.List.{flat_map};
 ghost use Rattle.value_rules.specs.Texts.{comma_before, escape_of, escaped, name_in, pair_text, quoted, text_in, with_commas};
 
-use epl_values::{EventShapes, Pair, Text, Value};
+use epl_values::{EventShapes, Items, Pair, Pairs, Text, Value};
 use std::alloc::{AllocError, Global};
 
 /// A value as text: `[1,2]`, `{"a":true}`, `Name(-5,"b\n")`. A context or a listener counts as the empty text.
@@ -26,13 +26,13 @@ fn push_value(out: &mut Text, value: &Value, types: &EventShapes) -> Result<(), 
         Value::Text(text) => push_quoted(out, text.as_str()),
         Value::Sequence(items) => {
             out.push("[")?;
-            push_values(out, items.as_slice(), types)?;
+            push_items(out, items, types)?;
             out.push("]")?;
             Ok(())
         }
         Value::Dictionary(pairs) => {
             out.push("{")?;
-            push_pairs(out, pairs.as_slice(), types)?;
+            push_pairs(out, pairs, types)?;
             out.push("}")?;
             Ok(())
         }
@@ -61,13 +61,26 @@ fn push_values(out: &mut Text, values: &[Value], types: &EventShapes) -> Result<
 }
 
 #[cycle(texts)]
-fn push_pairs(out: &mut Text, pairs: &[Pair], types: &EventShapes) -> Result<(), AllocError>
+fn push_items(out: &mut Text, items: &Items, types: &EventShapes) -> Result<(), AllocError>
+    ensures { OnOk result (out.new ≡ out.old ++ with_commas (map (text_in types.now) items.now)) }
+{
+    let mut first = true;
+    for at in 0..items.len() {
+        push_comma(out, first)?;
+        push_value(out, items.get(at), types)?;
+        first = false;
+    }
+    Ok(())
+}
+
+#[cycle(texts)]
+fn push_pairs(out: &mut Text, pairs: &Pairs, types: &EventShapes) -> Result<(), AllocError>
     ensures { OnOk result (out.new ≡ out.old ++ with_commas (map (pair_text types.now) pairs.now)) }
 {
     let mut first = true;
-    for pair in pairs {
+    for at in 0..pairs.len() {
         push_comma(out, first)?;
-        push_pair(out, pair, types)?;
+        push_pair(out, pairs.get(at), types)?;
         first = false;
     }
     Ok(())

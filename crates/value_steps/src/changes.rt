@@ -12,7 +12,7 @@ use crate::reading::{integer, natural};
 use crate::trouble::Trouble;
 use action_host::Fault;
 use body_meaning::Move;
-use epl_values::{List, Pair, Pairs, Value, Values};
+use epl_values::{Items, List, Pair, Pairs, Value, Values};
 use std::alloc::Global;
 use std::mem;
 use typed_program::Method;
@@ -40,7 +40,7 @@ fn clear(alloc: Global, value: &mut Value) -> Result<(), Trouble>
 {
     match value {
         Value::Sequence(items) => {
-            *items = List::new(alloc);
+            *items = Items::new(alloc);
             Ok(())
         }
         Value::Dictionary(pairs) => {
@@ -51,7 +51,7 @@ fn clear(alloc: Global, value: &mut Value) -> Result<(), Trouble>
     }
 }
 
-fn put_item(items: &mut Values, number: usize, item: Value) -> Result<(), Trouble>
+fn put_item(items: &mut Items, number: usize, item: Value) -> Result<(), Trouble>
     ensures { Leaves result items.new items.old (with_item items.old number item) }
 {
     if number < items.len() {
@@ -62,7 +62,18 @@ fn put_item(items: &mut Values, number: usize, item: Value) -> Result<(), Troubl
     }
 }
 
-fn put_place(items: &mut Values, place: i64, item: Value) -> Result<(), Trouble>
+fn put_in_fields(fields: &mut Values, number: usize, item: Value) -> Result<(), Trouble>
+    ensures { Leaves result fields.new fields.old (with_item fields.old number item) }
+{
+    if number < fields.len() {
+        let _old = fields.set(number, item);
+        Ok(())
+    } else {
+        Err(Trouble::Fault(Fault::IndexOutOfRange))
+    }
+}
+
+fn put_place(items: &mut Items, place: i64, item: Value) -> Result<(), Trouble>
     ensures { Leaves result items.new items.old (with_place items.old (natural place) item) }
 {
     match natural(place) {
@@ -71,7 +82,7 @@ fn put_place(items: &mut Values, place: i64, item: Value) -> Result<(), Trouble>
     }
 }
 
-fn remove_place(items: &mut Values, place: i64) -> Result<(), Trouble>
+fn remove_place(items: &mut Items, place: i64) -> Result<(), Trouble>
     ensures { Leaves result items.new items.old (without_place items.old (natural place)) }
 {
     match natural(place) {
@@ -135,7 +146,7 @@ fn put_field(value: &mut Value, number: u16, part: Value) -> Result<(), Trouble>
     ensures { Leaves result value.new value.old (put (Move.Field number) part value.old) }
 {
     match value {
-        Value::Event(_, fields) => put_item(fields, usize::from(number), part),
+        Value::Event(_, fields) => put_in_fields(fields, usize::from(number), part),
         _ => Err(Trouble::Fault(Fault::IndexOutOfRange)),
     }
 }
@@ -215,7 +226,7 @@ fn change_field(
     match mem::replace(value, Value::NoContext) {
         Value::Event(event, fields) => {
             let mut fields = fields;
-            let answer = change_item(alloc, &mut fields, number, moves, change);
+            let answer = change_in_fields(alloc, &mut fields, number, moves, change);
             let _hole = mem::replace(value, Value::Event(event, fields));
             answer
         }
@@ -279,7 +290,7 @@ fn change_value(
 #[cycle(changes)]
 fn change_place(
     alloc: Global,
-    items: &mut Values,
+    items: &mut Items,
     place: i64,
     moves: &[Move],
     change: Change,
@@ -296,7 +307,7 @@ fn change_place(
 #[cycle(changes)]
 fn change_item(
     alloc: Global,
-    items: &mut Values,
+    items: &mut Items,
     number: usize,
     moves: &[Move],
     change: Change,
@@ -310,6 +321,26 @@ fn change_item(
     let mut item = items.set(number, Value::NoContext);
     let result = change_at(alloc, &mut item, moves, change);
     let _hole = items.set(number, item);
+    result
+}
+
+#[cycle(changes)]
+fn change_in_fields(
+    alloc: Global,
+    fields: &mut Values,
+    number: usize,
+    moves: &[Move],
+    change: Change,
+) -> Result<(), Trouble>
+    requires { AreOrderly fields.old }
+    ensures { Leaves result fields.new fields.old (item_altered fields.old number moves.now (done_by change)) }
+{
+    if fields.len() <= number {
+        return Err(Trouble::Fault(Fault::IndexOutOfRange));
+    }
+    let mut item = fields.set(number, Value::NoContext);
+    let result = change_at(alloc, &mut item, moves, change);
+    let _hole = fields.set(number, item);
     result
 }
 

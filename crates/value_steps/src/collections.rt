@@ -4,7 +4,7 @@ ghost use Rattle.epl_values.specs.Order.{order_of};
 ghost use Rattle.body_meaning.specs.Methods.{keys_of, place_number, place_of, size_of};
 ghost use Rattle.body_meaning.specs.Values.{is_equal, items_of, pairs_of};
 
-use epl_values::{List, Pair, Value, Values, copy};
+use epl_values::{Items, Pairs, Value, copy};
 use std::alloc::{AllocError, Global};
 use std::cmp::Ordering;
 use value_rules::order;
@@ -15,10 +15,16 @@ fn is_same(left: &Value, right: &Value) -> bool
     order(left, right) == Ordering::Equal
 }
 
-fn place_among(values: &[Value], wanted: &Value) -> Option<usize>
-    ensures { result ≡ position (λ value. is_equal (order_of value wanted.now)) values.now }
+fn place_among(items: &Items, wanted: &Value) -> Option<usize>
+    ensures place { result ≡ position (λ value. is_equal (order_of value wanted.now)) items.now }
+    ensures few { IfSome result (λ n. n < 2 ^ 63) }
 {
-    values.iter().position(|value| is_same(value, wanted))
+    for at in 0..items.len() {
+        if is_same(items.get(at), wanted) {
+            return Some(at);
+        }
+    }
+    None
 }
 
 fn place_number(place: Option<usize>) -> i64
@@ -36,9 +42,7 @@ pub fn place_of(wanted: &Value, value: &Value) -> Value
     ensures { result ≡ place_of wanted.now value.now }
 {
     match value {
-        Value::Sequence(items) => {
-            Value::Integer(place_number(place_among(items.as_slice(), wanted)))
-        }
+        Value::Sequence(items) => Value::Integer(place_number(place_among(items, wanted))),
         _ => Value::Integer(-1),
     }
 }
@@ -54,12 +58,12 @@ pub fn size_of(value: &Value) -> Value
     }
 }
 
-fn copy_keys(alloc: Global, pairs: &[Pair]) -> Result<Values, AllocError>
+fn copy_keys(alloc: Global, pairs: &Pairs) -> Result<Items, AllocError>
     ensures { IfOk result (λ keys. keys ≡ map (λ pair. pair.key) pairs.now) }
 {
-    let mut keys = List::new(alloc);
-    for pair in pairs {
-        keys.push(copy(alloc, &pair.key)?)?;
+    let mut keys = Items::new(alloc);
+    for at in 0..pairs.len() {
+        keys.push(copy(alloc, &pairs.get(at).key)?)?;
     }
     Ok(keys)
 }
@@ -69,7 +73,7 @@ pub fn keys_of(alloc: Global, value: &Value) -> Result<Value, AllocError>
     ensures { IfOk result (λ keys. keys ≡ keys_of value.now) }
 {
     match value {
-        Value::Dictionary(pairs) => Ok(Value::Sequence(copy_keys(alloc, pairs.as_slice())?)),
-        _ => Ok(Value::Sequence(List::new(alloc))),
+        Value::Dictionary(pairs) => Ok(Value::Sequence(copy_keys(alloc, pairs)?)),
+        _ => Ok(Value::Sequence(Items::new(alloc))),
     }
 }

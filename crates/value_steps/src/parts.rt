@@ -11,7 +11,7 @@ use crate::entries::at_key;
 use crate::reading::natural;
 use action_host::Fault;
 use body_meaning::Move;
-use epl_values::{Pairs, Value, Values};
+use epl_values::{Items, Pairs, Value, Values};
 
 fn at_number(values: &Values, number: usize) -> Result<&Value, Fault>
     ensures { shown result ≡ or_fault IndexOutOfRange (slice_get values.now number) }
@@ -23,11 +23,21 @@ fn at_number(values: &Values, number: usize) -> Result<&Value, Fault>
     }
 }
 
-fn at_place(values: &Values, place: i64) -> Result<&Value, Fault>
-    ensures { shown result ≡ or_fault IndexOutOfRange (at_place values.now place) }
+fn item_at(items: &Items, number: usize) -> Result<&Value, Fault>
+    ensures { shown result ≡ or_fault IndexOutOfRange (slice_get items.now number) }
+{
+    if number < items.len() {
+        Ok(items.get(number))
+    } else {
+        Err(Fault::IndexOutOfRange)
+    }
+}
+
+fn at_place(items: &Items, place: i64) -> Result<&Value, Fault>
+    ensures { shown result ≡ or_fault IndexOutOfRange (at_place items.now place) }
 {
     match natural(place) {
-        Some(number) => at_number(values, number),
+        Some(number) => item_at(items, number),
         None => Err(Fault::IndexOutOfRange),
     }
 }

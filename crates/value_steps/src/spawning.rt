@@ -4,7 +4,7 @@ ghost use Rattle.body_meaning.specs.Effects.{deadline_leaves, emptied, starting,
 ghost use Rattle.value_steps.specs.Emptied.{emptied_entry};
 ghost use Rattle.value_steps.specs.Orderly.{AreOrderly, AreOrderlyPairs, IsOrderly};
 
-use epl_values::{List, Pair, Pairs, Text, Value, Values};
+use epl_values::{Items, List, Pair, Pairs, Text, Value, Values};
 use std::alloc::{AllocError, Global};
 use typed_program::{Term, Terms};
 
@@ -18,7 +18,7 @@ pub fn emptied(alloc: Global, value: &Value) -> Result<Value, AllocError>
         Value::Integer(number) => Ok(Value::Integer(*number)),
         Value::Boolean(is) => Ok(Value::Boolean(*is)),
         Value::Text(text) => Ok(Value::Text(Text::of(alloc, text.as_str())?)),
-        Value::Sequence(items) => Ok(Value::Sequence(emptied_values(alloc, items.as_slice())?)),
+        Value::Sequence(items) => Ok(Value::Sequence(emptied_items(alloc, items)?)),
         Value::Dictionary(pairs) => Ok(Value::Dictionary(emptied_pairs(alloc, pairs)?)),
         Value::Event(number, fields) => {
             Ok(Value::Event(*number, emptied_values(alloc, fields.as_slice())?))
@@ -42,13 +42,26 @@ fn emptied_values(alloc: Global, values: &[Value]) -> Result<Values, AllocError>
 }
 
 #[cycle(emptied)]
+fn emptied_items(alloc: Global, items: &Items) -> Result<Items, AllocError>
+    requires { AreOrderly items.now }
+    ensures { IfOk result (λ v. v ≡ map emptied items.now) }
+{
+    let mut copies = Items::new(alloc);
+    for at in 0..items.len() {
+        copies.push(emptied(alloc, items.get(at))?)?;
+    }
+    Ok(copies)
+}
+
+#[cycle(emptied)]
 fn emptied_pairs(alloc: Global, pairs: &Pairs) -> Result<Pairs, AllocError>
     requires order { KeysAscend pairs.now }
     requires parts { AreOrderlyPairs pairs.now }
     ensures { IfOk result (λ v. v ≡ map emptied_entry pairs.now) }
 {
     let mut copies = Pairs::new(alloc);
-    for pair in pairs.as_slice() {
+    for at in 0..pairs.len() {
+        let pair = pairs.get(at);
         let key = emptied(alloc, &pair.key)?;
         let value = emptied(alloc, &pair.value)?;
         copies.push(Pair { key, value })?;

@@ -5,5 +5,8 @@ use Rattle.value_rules.proofs.costs.+costs.Given as goal
 abbrev pub invariant-cost_with-loop-part : goal.invariant-cost_with-loop-part
 invariant-cost_with-loop-part l = l.total ≡ min (2 ^ 64 - 1) (1 + sum_by cost_of (take l.part-index l.parts))
 
-abbrev pub invariant-cost_with_pairs-loop-pair : goal.invariant-cost_with_pairs-loop-pair
-invariant-cost_with_pairs-loop-pair l = l.total ≡ min (2 ^ 64 - 1) (1 + sum_by pair_cost (take l.pair-index l.pairs))
+abbrev pub invariant-cost_with_items-loop-at : goal.invariant-cost_with_items-loop-at
+invariant-cost_with_items-loop-at l = l.total ≡ min (2 ^ 64 - 1) (1 + sum_by cost_of (take l.at l.items))
+
+abbrev pub invariant-cost_with_pairs-loop-at : goal.invariant-cost_with_pairs-loop-at
+invariant-cost_with_pairs-loop-at l = l.total ≡ min (2 ^ 64 - 1) (1 + sum_by pair_cost (take l.at l.pairs))

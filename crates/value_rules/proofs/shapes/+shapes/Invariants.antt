@@ -3,13 +3,13 @@ use Rattle.std.specs.List.{list_all}
 use Rattle.value_rules.specs.Shapes.{all_fit, event_fits, has, pair_has}
 use Rattle.value_rules.proofs.shapes.+shapes.Given as goal
 
-abbrev pub invariant-all_have-loop-item : goal.invariant-all_have-loop-item
-invariant-all_have-loop-item l =
-    list_all (λ part. part l.element) (map (has l.types) (drop l.item-index l.item-items)) ≡ list_all (λ part. part l.fn.element) (map (has l.fn.types) l.fn.items)
+abbrev pub invariant-all_have-loop-at : goal.invariant-all_have-loop-at
+invariant-all_have-loop-at l =
+    list_all (λ part. part l.element) (map (has l.types) (drop l.at l.items)) ≡ list_all (λ part. part l.fn.element) (map (has l.fn.types) l.fn.items)
 
-abbrev pub invariant-pairs_have-loop-pair : goal.invariant-pairs_have-loop-pair
-invariant-pairs_have-loop-pair l =
-    list_all (λ pair. pair l.key l.item) (map (pair_has l.types) (drop l.pair-index l.pair-items)) ≡ list_all (λ pair. pair l.fn.key l.fn.item) (map (pair_has l.fn.types) l.fn.pairs)
+abbrev pub invariant-pairs_have-loop-at : goal.invariant-pairs_have-loop-at
+invariant-pairs_have-loop-at l =
+    list_all (λ pair. pair l.key l.item) (map (pair_has l.types) (drop l.at l.pairs)) ≡ list_all (λ pair. pair l.fn.key l.fn.item) (map (pair_has l.fn.types) l.fn.pairs)
 
 abbrev pub invariant-fields_have-loop-value : goal.invariant-fields_have-loop-value
 invariant-fields_have-loop-value l =

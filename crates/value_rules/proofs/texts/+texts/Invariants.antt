@@ -8,8 +8,14 @@ invariant-push_values-loop-value l = record {
   front : l.first ≡ (l.value-index == 0);
 }
 
-abbrev pub invariant-push_pairs-loop-pair : goal.invariant-push_pairs-loop-pair
-invariant-push_pairs-loop-pair l = record {
-  made : l.out ≡ l.fn.out ++ with_commas (map (pair_text l.types) (take l.pair-index l.pairs));
-  front : l.first ≡ (l.pair-index == 0);
+abbrev pub invariant-push_items-loop-at : goal.invariant-push_items-loop-at
+invariant-push_items-loop-at l = record {
+  made : l.out ≡ l.fn.out ++ with_commas (map (text_in l.types) (take l.at l.items));
+  front : l.first ≡ (l.at == 0);
+}
+
+abbrev pub invariant-push_pairs-loop-at : goal.invariant-push_pairs-loop-at
+invariant-push_pairs-loop-at l = record {
+  made : l.out ≡ l.fn.out ++ with_commas (map (pair_text l.types) (take l.at l.pairs));
+  front : l.first ≡ (l.at == 0);
 }

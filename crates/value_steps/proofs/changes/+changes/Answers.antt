@@ -32,8 +32,8 @@ change_at-returns-in-Key t c =
     let is = c.in-Key.is in
     leaves_moves c.change_value.result c.args.value.now c.change_value.new.value c.args.moves.now c.in-Some.others.now c.in-Some.first.now (move.Key c.in-Key.key) (done_by c.args.change) cut is c.change_value.ensures
 
-pub change_field-change_item-answer-requires : goal.change_field-change_item-answer-requires
-change_field-change_item-answer-requires t c =
+pub change_field-change_in_fields-answer-requires : goal.change_field-change_in_fields-answer-requires
+change_field-change_in_fields-answer-requires t c =
     let is : c.args.value.now ≡ value.Event c.in-Event.event c.in-Event.fields = cc in
     let known : AreOrderly c.in-Event.fields = event_parts c.args.value.now c.in-Event.event c.in-Event.fields is c.requires in
     search (rules, known)
@@ -41,7 +41,7 @@ change_field-change_item-answer-requires t c =
 pub change_field-returns-in-Event : goal.change_field-returns-in-Event
 change_field-returns-in-Event t c =
     let is : c.args.value.now ≡ value.Event c.in-Event.event c.in-Event.fields = cc in
-    event_left c.change_item-answer.result c.args.value.now _ c.in-Event.event c.change_item-answer.new.items c.in-Event.fields c.args.number (move.Field c.args.number) c.args.moves.now (move.Field c.args.number ∷ c.args.moves.now) (done_by c.args.change) refl refl is (cc) c.change_item-answer.ensures
+    event_left c.change_in_fields-answer.result c.args.value.now _ c.in-Event.event c.change_in_fields-answer.new.fields c.in-Event.fields c.args.number (move.Field c.args.number) c.args.moves.now (move.Field c.args.number ∷ c.args.moves.now) (done_by c.args.change) refl refl is (cc) c.change_in_fields-answer.ensures
 
 pub change_element-change_place-answer-requires : goal.change_element-change_place-answer-requires
 change_element-change_place-answer-requires t c =
@@ -83,3 +83,6 @@ change_entry-returns t c = entry_left c.change_at-result.result c.args.key.now c
 
 pub change_item-returns : goal.change_item-returns
 change_item-returns t c = item_left c.change_at-result.result c.args.items.now c.set-item.new.self c.set-hole.new.self c.args.number c.set-item.result value.NoContext c.change_at-result.new.value c.args.moves.now (done_by c.args.change) c.set-item.ensures.old c.set-item.ensures.new c.set-hole.ensures.new c.change_at-result.ensures
+
+pub change_in_fields-returns : goal.change_in_fields-returns
+change_in_fields-returns t c = item_left c.change_at-result.result c.args.fields.now c.set-item.new.self c.set-hole.new.self c.args.number c.set-item.result value.NoContext c.change_at-result.new.value c.args.moves.now (done_by c.args.change) c.set-item.ensures.old c.set-item.ensures.new c.set-hole.ensures.new c.change_at-result.ensures

@@ -19,5 +19,8 @@ decreases-change_place l = 4 * length l.moves.now + 2
 abbrev pub decreases-change_item : goal.decreases-change_item
 decreases-change_item l = 4 * length l.moves.now + 1
 
+abbrev pub decreases-change_in_fields : goal.decreases-change_in_fields
+decreases-change_in_fields l = 4 * length l.moves.now + 1
+
 abbrev pub decreases-change_entry : goal.decreases-change_entry
 decreases-change_entry l = 4 * length l.moves.now + 1

@@ -6,4 +6,4 @@ use Rattle.value_steps.proofs.Ascending.{ascend_set}
 use Rattle.value_steps.proofs.entries.take_entry.Goals as goal
 
 pub set-requires-clause-order : goal.set-requires-clause-order
-set-requires-clause-order c = subst (λ k. KeysAscend (slice_set c.args.pairs.now c.args.at (entry k NoContext))) (sym c.in_ok-key.ensures) (ascend_set c.args.pairs.now c.args.at c.get.result.now NoContext c.get.ensures c.requires.order)
+set-requires-clause-order c = subst (λ k. KeysAscend (slice_set c.args.pairs.now c.args.at (entry k NoContext))) (sym c.in_ok-key.ensures) (ascend_set c.args.pairs.now c.args.at c.get.result.now NoContext c.get.ensures.item c.requires.order)

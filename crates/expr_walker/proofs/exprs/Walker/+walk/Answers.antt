@@ -134,11 +134,11 @@ value-returns-in_err-values-in-Event g t c = walked_err _ c.from_residual-in_err
 pub value-returns-in_ok-values-in-Event : goal.value-returns-in_ok-values-in-Event
 value-returns-in_ok-values-in-Event g t c = record { means = tells_as (form.value_by (form.event_is c.args.self.now.program.now.types (enter c.args.self.now.program.now c.args.self.now.depth) c.args.e.now c.in-Event.n c.as_slice-in-Event.result.now (c.in-Event.is ∙ ap (λ x. tree.Event c.in-Event.n x) (sym c.as_slice-in-Event.ensures)))) (tells_then_pure (λ vs. value.Event c.in-Event.n vs) c.in_ok-values-in-Event.ensures.means); kept = c.in_ok-values-in-Event.ensures.kept; order = event_orderly c.in-Event.n c.in_ok-values-in-Event.values c.in_ok-values-in-Event.ensures.order }
 
-pub value-returns-in_err-values-in-Sequence : goal.value-returns-in_err-values-in-Sequence
-value-returns-in_err-values-in-Sequence g t c = walked_err _ c.from_residual-in_err-values-in-Sequence.ensures.1 c.in_err-values-in-Sequence.ensures.kept (tells_as (form.value_by (form.sequence_is c.args.self.now.program.now.types (enter c.args.self.now.program.now c.args.self.now.depth) c.args.e.now c.as_slice-in-Sequence.result.now (c.in-Sequence.is ∙ ap (λ x. tree.Sequence x) (sym c.as_slice-in-Sequence.ensures)))) (tells_bind_err _ c.in_err-values-in-Sequence.ensures.means))
+pub value-returns-in_err-elements-in-Sequence : goal.value-returns-in_err-elements-in-Sequence
+value-returns-in_err-elements-in-Sequence g t c = walked_err _ c.from_residual-in_err-elements-in-Sequence.ensures.1 c.in_err-elements-in-Sequence.ensures.kept (tells_as (form.value_by (form.sequence_is c.args.self.now.program.now.types (enter c.args.self.now.program.now c.args.self.now.depth) c.args.e.now c.as_slice-in-Sequence.result.now (c.in-Sequence.is ∙ ap (λ x. tree.Sequence x) (sym c.as_slice-in-Sequence.ensures)))) (tells_bind_err _ c.in_err-elements-in-Sequence.ensures.means))
 
-pub value-returns-in_ok-values-in-Sequence : goal.value-returns-in_ok-values-in-Sequence
-value-returns-in_ok-values-in-Sequence g t c = record { means = tells_as (form.value_by (form.sequence_is c.args.self.now.program.now.types (enter c.args.self.now.program.now c.args.self.now.depth) c.args.e.now c.as_slice-in-Sequence.result.now (c.in-Sequence.is ∙ ap (λ x. tree.Sequence x) (sym c.as_slice-in-Sequence.ensures)))) (tells_then_pure (λ vs. value.Sequence vs) c.in_ok-values-in-Sequence.ensures.means); kept = c.in_ok-values-in-Sequence.ensures.kept; order = sequence_orderly c.in_ok-values-in-Sequence.values c.in_ok-values-in-Sequence.ensures.order }
+pub value-returns-in_ok-elements-in-Sequence : goal.value-returns-in_ok-elements-in-Sequence
+value-returns-in_ok-elements-in-Sequence g t c = record { means = tells_as (form.value_by (form.sequence_is c.args.self.now.program.now.types (enter c.args.self.now.program.now c.args.self.now.depth) c.args.e.now c.as_slice-in-Sequence.result.now (c.in-Sequence.is ∙ ap (λ x. tree.Sequence x) (sym c.as_slice-in-Sequence.ensures)))) (tells_then_pure (λ vs. value.Sequence vs) c.in_ok-elements-in-Sequence.ensures.means); kept = c.in_ok-elements-in-Sequence.ensures.kept; order = sequence_orderly c.in_ok-elements-in-Sequence.elements c.in_ok-elements-in-Sequence.ensures.order }
 
 pub value-returns-in_err-pairs-in-Dictionary : goal.value-returns-in_err-pairs-in-Dictionary
 value-returns-in_err-pairs-in-Dictionary g t c = walked_err _ c.from_residual-in_err-pairs-in-Dictionary.ensures.1 c.in_err-pairs-in-Dictionary.ensures.kept (tells_as (form.value_by (form.dictionary_is c.args.self.now.program.now.types (enter c.args.self.now.program.now c.args.self.now.depth) c.args.e.now c.as_slice-in-Dictionary.result.now (c.in-Dictionary.is ∙ ap (λ x. tree.Dictionary x) (sym c.as_slice-in-Dictionary.ensures)))) (tells_bind_err _ c.in_err-pairs-in-Dictionary.ensures.means))
@@ -310,6 +310,21 @@ values-loop-e-preserved g t c = (leads_same (ap (λ l. all_behind l (map (value_
 
 pub values-returns : goal.values-returns
 values-returns g t c = record { means = tells_walks (all_end (value_by c.args.self.now.program.now c.args.self.now.depth) c.loop-e.values c.args.es.now c.loop-e.e-index c.loop-e-test.false c.loop-e.invariant.0); kept = c.loop-e.invariant.1; order = c.loop-e.invariant.2 }
+
+pub elements-loop-e-init : goal.elements-loop-e-init
+elements-loop-e-init g t c = (leads_same (ap (λ l. all_behind l (map (value_by c.args.self.now.program.now c.args.self.now.depth) c.args.es.now)) (sym c.new-elements.ensures)) (leads_start _ _ _), c.requires.globals, subst AreOrderly (sym c.new-elements.ensures) tt)
+
+pub elements-returns-in_err-value : goal.elements-returns-in_err-value
+elements-returns-in_err-value g t c = walked_err _ c.from_residual.ensures.1 c.in_err-value.ensures.kept (all_told_stop (value_by c.args.self.now.program.now c.args.self.now.depth) c.loop-e.elements c.args.es.now c.loop-e.e-index c.e-item.result c.loop-e-test.true c.e-item.is c.loop-e.invariant.0 c.in_err-value.ensures.means)
+
+pub elements-returns-in_err-push : goal.elements-returns-in_err-push
+elements-returns-in_err-push g t c = walked_err _ c.from_residual-in_err-push.ensures.1 c.in_ok-value.ensures.kept (leads_tells (all_told (value_by c.args.self.now.program.now c.args.self.now.depth) c.loop-e.elements c.args.es.now c.loop-e.e-index c.e-item.result c.loop-e-test.true c.e-item.is c.loop-e.invariant.0 c.in_ok-value.ensures.means) (tells_memory _ _ (g.H.Host.told c.value.new.host) refl))
+
+pub elements-loop-e-preserved : goal.elements-loop-e-preserved
+elements-loop-e-preserved g t c = (leads_same (ap (λ l. all_behind l (map (value_by c.args.self.now.program.now c.args.self.now.depth) (drop (c.loop-e.e-index + 1) c.args.es.now))) (sym c.in_ok-push.ensures.ok)) (all_told (value_by c.args.self.now.program.now c.args.self.now.depth) c.loop-e.elements c.args.es.now c.loop-e.e-index c.e-item.result c.loop-e-test.true c.e-item.is c.loop-e.invariant.0 c.in_ok-value.ensures.means), c.in_ok-value.ensures.kept, subst AreOrderly (sym c.in_ok-push.ensures.ok) (all_joined IsOrderly c.loop-e.elements (c.in_ok-value.value ∷ []) c.loop-e.invariant.2 (c.in_ok-value.ensures.order, tt)))
+
+pub elements-returns : goal.elements-returns
+elements-returns g t c = record { means = tells_walks (all_end (value_by c.args.self.now.program.now c.args.self.now.depth) c.loop-e.elements c.args.es.now c.loop-e.e-index c.loop-e-test.false c.loop-e.invariant.0); kept = c.loop-e.invariant.1; order = c.loop-e.invariant.2 }
 
 pub arguments-loop-e-init : goal.arguments-loop-e-init
 arguments-loop-e-init g t c = (leads_same (ap (λ l. all_behind (values_in l) (map (value_by c.args.self.now.program.now c.args.self.now.depth) c.args.es.now)) (sym c.new-lent.ensures)) (leads_start _ _ _), c.requires.globals, subst (λ l. AreOrderly (values_in l)) (sym c.new-lent.ensures) tt)

@@ -26,6 +26,9 @@ invariant-links-loop-link g l = Leads (links_from (map (link_by l.self.program.n
 abbrev pub invariant-values-loop-e : goal.invariant-values-loop-e
 invariant-values-loop-e g l = Leads (all (map (value_by l.self.program.now l.self.depth) l.es)) (g.H.Host.told l.fn.host) (frame_of l.fn.globals l.self.locals.now) (all_behind l.values (map (value_by l.self.program.now l.self.depth) (drop l.e-index l.es))) (g.H.Host.told l.host) (frame_of l.globals l.self.locals.now) × AreOrderly l.globals × AreOrderly l.values
 
+abbrev pub invariant-elements-loop-e : goal.invariant-elements-loop-e
+invariant-elements-loop-e g l = Leads (all (map (value_by l.self.program.now l.self.depth) l.es)) (g.H.Host.told l.fn.host) (frame_of l.fn.globals l.self.locals.now) (all_behind l.elements (map (value_by l.self.program.now l.self.depth) (drop l.e-index l.es))) (g.H.Host.told l.host) (frame_of l.globals l.self.locals.now) × AreOrderly l.globals × AreOrderly l.elements
+
 abbrev pub invariant-entries-loop-entry : goal.invariant-entries-loop-entry
 invariant-entries-loop-entry g l = Leads (entries_behind [] (map (entry_by l.self.program.now l.self.depth) l.entries)) (g.H.Host.told l.fn.host) (frame_of l.fn.globals l.self.locals.now) (entries_behind l.pairs (map (entry_by l.self.program.now l.self.depth) (drop l.entry-index l.entries))) (g.H.Host.told l.host) (frame_of l.globals l.self.locals.now) × AreOrderly l.globals × KeysAscend l.pairs × AreOrderlyPairs l.pairs
 
