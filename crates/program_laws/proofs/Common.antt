@@ -103,7 +103,7 @@ pub use Rattle.listener_check.specs.declared.sofar.Sofar.{Sofar}
 pub use Rattle.listener_check.specs.declared.template.Clauses.{Clauses}
 pub use Rattle.listener_check.specs.declared.value.Naming.{Naming}
 pub use Rattle.program_laws.specs.Known.{Knows, KnowsAction, KnowsName, KnowsNamed, KnowsTable, KnowsType, answers, by_number, gives_result, result_stands, wish_stands, wished}
-pub use Rattle.program_laws.specs.Sees.{KeepsSpecial, Mentioned, SameRoot, SeesName, SeesNamed, is_barred, is_outer, kind_seen, permitted}
+pub use Rattle.program_laws.specs.Sees.{KeepsSpecial, Mentioned, SameRoot, SeesName, SeesNamed, bound_refers, is_barred, is_outer, kind_seen, permitted}
 pub use Rattle.span_text.specs.declared.spot.Spot.{Spot}
 pub use Rattle.stmt_check.specs.Actions.{action_of, action_read, actions_before, body_around, body_start, is_global_named, is_param_named, member_codes, param_codes, param_read}
 pub use Rattle.stmt_check.specs.Bodies.{Around, action_in, bound_in, bound_seen, callback_start, captured_in, in_callback, in_loop, is_special, known_shape, left, local_codes, local_read, outer_kind, place_among, scoped, seen_local, short, site_number, site_of, when, with_local, with_site}
@@ -134,7 +134,7 @@ pub use Rattle.type_table.specs.declared.table.GlobalHead.{GlobalHead}
 pub use Rattle.type_table.specs.declared.table.MonitorHead.{MonitorHead}
 pub use Rattle.type_table.specs.declared.table.ParamHead.{ParamHead}
 pub use Rattle.type_table.specs.declared.table.Table.{Table}
-pub use Rattle.typed_program.specs.Courses.{Reading, assigns, bound_from, captured_from, taken_from}
+pub use Rattle.typed_program.specs.Courses.{Reading, assigns, bound_from, captured_from, kind_inside}
 pub use Rattle.typed_program.specs.Expressions.{Checked, Names, Paired, Stepping, agrees, are_of, checked, entry_so, expr_so, field_shape, have, holds, if_known, is_add, is_of, link_so, may_compare, may_stand, node_so, shape_in, shape_of, step_so, stepping, suffix_so, walks}
 pub use Rattle.typed_program.specs.Limits.{are_narrow}
 pub use Rattle.typed_program.specs.Mentions.{Mention, all_mention, mentions, place_mentions}

@@ -1,4 +1,5 @@
 pub mod Lookups
+pub mod Sites
 pub mod Claims
 pub mod Sights
 pub mod Readings

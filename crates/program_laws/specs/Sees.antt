@@ -1,5 +1,5 @@
 -- What is visible in a text, and what its body sees by number: kinds, roots of paths, and the actions that aren't called.
-use Rattle.program_laws.specs.Common.{ℕ, Bool, true, false, not, List, Option, Some, None, Scope, Seen, SeenKind, Table, ActionHead, action_named, seen}
+use Rattle.program_laws.specs.Common.{ℕ, Bool, true, false, List, Option, Some, None, Scope, Seen, SeenKind, Table, ActionHead, action_named, seen}
 use Rattle.std.specs.Prelude.{◌≡◌, ◌&&◌, ◌-◌, ◌==◌}
 use Rattle.std.specs.List.{list_any}
 use Rattle.typed_program.specs.Mentions.{Mention}
@@ -31,11 +31,17 @@ is_outer k = false
 abbrev pub is_barred : Seen → Bool
 is_barred s = is_outer s.kind && is_known_reference s.shape
 
+-- a co-assignment is of reference type
+abbrev pub bound_refers : SeenKind → Bool → Bool
+bound_refers kind.Bound reference = reference
+bound_refers k reference = true
+
 -- the body sees this name by its number
 pub record SeesName (visible : List Visible) (s : Seen) : Type 0 where
   pub at : Visible
   pub is_at : visible_at visible s.number ≡ Some at
   pub kind : at.kind ≡ kind_seen s.kind
+  pub refers : bound_refers s.kind (is_known_reference s.shape) ≡ true
 
 -- of the visible names, globals aside, those that pass a test and may be named
 pub record SeesNamed (visible : List Visible) (scope : Scope) (named : List ℕ → Bool) : Type 0 where

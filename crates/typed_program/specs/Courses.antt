@@ -1,6 +1,6 @@
 -- The rules of statements: what is visible where, what may be assigned, where loops and bodies end, and what callbacks see.
-use Rattle.std.specs.Prelude.{◌+◌, ◌&&◌, ◌==◌, ◌∷◌, ◌++◌, if◌then◌else◌}
-use Rattle.typed_program.specs.Common.{ℕ, zero, suc, Bool, true, false, not, nat_lt, List, [], map, length, Option, Some, None, is_some, slice_get, list_all, list_any, Shape}
+use Rattle.std.specs.Prelude.{◌&&◌, ◌==◌, ◌∷◌, ◌++◌, if◌then◌else◌}
+use Rattle.typed_program.specs.Common.{ℕ, suc, Bool, true, false, not, nat_le, nat_lt, List, [], map, length, Option, Some, None, is_some, slice_get, list_all, list_any, Shape}
 use Rattle.typed_program.specs.declared.expression.TypedExpr.{TypedExpr}
 use Rattle.typed_program.specs.declared.program.Local.{Local}
 use Rattle.typed_program.specs.declared.program.Site.{Site}
@@ -11,7 +11,7 @@ use Rattle.typed_program.specs.declared.statement.Variable.{Variable}
 use Rattle.typed_program.specs.declared.statement.Variable.TheVariants as variable
 use Rattle.typed_program.specs.Shapes.{is_reference}
 use Rattle.typed_program.specs.Expressions.{Names, if_known}
-use Rattle.typed_program.specs.Paths.{Kind, Free, Held, Bound, Visible, Sight, Root, root_of, global_root, visible_at, is_reference_of, plain, all_plain, may_change, end_of, goes, path_of, going_of}
+use Rattle.typed_program.specs.Paths.{Kind, Free, Held, Bound, Visible, Sight, Root, root_of, global_root, visible_at, is_reference_of, plain, may_change, end_of, goes, path_of, going_of}
 
 -- what a statement leaves visible, and whether it keeps the rules
 pub record Course : Type 0 where
@@ -24,34 +24,37 @@ Reading = List Visible → Bool → Course
 
 -- ---- callbacks
 
--- a name that a callback takes along, at its place among those: an outer reference that isn't a co-assignment isn't named there
-abbrev pub taken_along : Local → ℕ → Visible → List Visible
-taken_along c at v = elim v.kind [ Bound ↦ record { number = at; kind = Bound } ∷ [] | _ ↦ if is_reference c.shape then [] else record { number = at; kind = Free } ∷ [] ]
+-- how a callback sees a name that it takes along: of those of reference type these are co-assignments alone
+abbrev pub kind_inside : Shape → Kind
+kind_inside s = if is_reference s then Bound else Free
 
-abbrev pub taken_from : Local → ℕ → Option Visible → List Visible
-taken_from c at None = []
-taken_from c at (Some v) = taken_along c at v
-
-abbrev pub captured_from : List Visible → ℕ → List Local → List Visible
-captured_from visible at [] = []
-captured_from visible at (c ∷ cs) = taken_from c at (visible_at visible c.number) ++ captured_from visible (suc at) cs
+-- the names that it takes along, at their places among those
+abbrev pub captured_from : ℕ → List Local → List Visible
+captured_from at [] = []
+captured_from at (c ∷ cs) = record { number = at; kind = kind_inside c.shape } ∷ captured_from (suc at) cs
 
 abbrev pub bound_from : ℕ → List Local → List Visible
 bound_from at [] = []
 bound_from at (b ∷ bs) = record { number = at; kind = Bound } ∷ bound_from (suc at) bs
 
--- where a callback begins
-abbrev pub callback_sees : List Visible → Site → List Visible
-callback_sees visible site = captured_from visible 0 site.captured ++ bound_from (length site.captured) site.bound
+-- where a callback begins: it sees the captured names, and then the bound ones
+abbrev pub callback_sees : Site → List Visible
+callback_sees site = captured_from 0 site.captured ++ bound_from (length site.captured) site.bound
 
--- captured names are visible around the `on`, in ascending order of their numbers
+-- numbers in ascending order
 abbrev pub ascend : List ℕ → Bool
 ascend [] = true
 ascend (n ∷ []) = true
 ascend (n ∷ m ∷ ns) = nat_lt n m && ascend (m ∷ ns)
 
-abbrev pub captures : List Visible → Site → Bool
-captures visible site = ascend (map (λ c. c.number) site.captured) && list_all (λ c. is_some (visible_at visible c.number)) site.captured
+-- of names of reference type a callback takes along co-assignments alone, and a co-assignment is of reference type
+abbrev pub may_take : Bool → Kind → Bool
+may_take reference Bound = reference
+may_take reference k = not reference
+
+-- a captured name is visible around the `on`, and may be taken along
+abbrev pub takes : List Visible → Local → Bool
+takes visible c = if_known (λ v. may_take (is_reference c.shape) v.kind) (visible_at visible c.number)
 
 -- ---- statements
 
@@ -73,7 +76,7 @@ abbrev pub if_there : Option Reading → List Visible → Bool → Bool
 if_there None visible looped = true
 if_there (Some m) visible looped = scoped m visible looped
 
-module _ (names : Names) (sites : List Site) (special : List ℕ) (callback : ℕ → List Visible → Bool) where
+module _ (names : Names) (sites : List Site) (special : List ℕ) (from : ℕ) where
   abbrev pub sees : List Visible → Sight
   sees visible = record { visible = visible; special = special }
 
@@ -83,9 +86,10 @@ module _ (names : Names) (sites : List Site) (special : List ℕ) (callback : �
   abbrev pub is_lawful : List Visible → TypedExpr → Bool
   is_lawful visible e = (path_of (sees visible) e).lawful
 
-  -- a listener of a site: its operands here, and its callback with what it sees
+  -- a listener of a site, whose number is one of those from the given one on: its operands here, and the names that its
+  -- callback takes along
   abbrev pub listens : List Visible → ℕ → Site → Bool
-  listens visible n site = list_all (is_plain visible) site.operands && captures visible site && callback n (callback_sees visible site)
+  listens visible n site = nat_le from n && list_all (is_plain visible) site.operands && list_all (takes visible) site.captured
 
   abbrev pub listens_at : List Visible → ℕ → Bool
   listens_at visible n = if_known (listens visible n) (slice_get sites n)

@@ -9,6 +9,7 @@ pub mod Paths
 pub mod Courses
 pub mod TermRules
 pub mod Rules
+pub mod Sites
 pub mod Limits
 pub mod Mentions
 pub mod Typed

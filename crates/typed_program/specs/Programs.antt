@@ -1,6 +1,6 @@
 -- Programs whose numbers name something and whose expressions, locals and globals have their shapes.
 use Rattle.std.specs.Prelude.{◌+◌, ◌≡◌, ◌&&◌, ◌==◌, ◌∷◌, ◌++◌}
-use Rattle.typed_program.specs.Common.{ℕ, Bool, true, false, not, List, [], length, map, Option, Some, None, is_some, slice_get, list_all, Shape, EventShape}
+use Rattle.typed_program.specs.Common.{ℕ, Bool, true, false, not, List, [], map, Option, Some, None, is_some, slice_get, list_all, Shape, EventShape}
 use Rattle.typed_program.specs.declared.expression.TypedExpr.{TypedExpr}
 use Rattle.typed_program.specs.declared.program.Program.{Program}
 use Rattle.typed_program.specs.declared.program.Monitor.{Monitor}
@@ -84,7 +84,7 @@ action_so program action = is_there program action.monitor && all_stand program 
 abbrev pub site_around : Program → Site → Around
 site_around program site = record { types = program.types; operands = map shape_of site.operands; bound = map (λ b. b.shape) site.bound }
 
--- the callback of a site, and its event expression; what is evaluated at the `on` is asked of the body around it
+-- the callback of a site, and its event expression
 abbrev pub site_so : Program → Site → Bool
 site_so program site = is_there program site.monitor && all_stand program (callback_params site ++ site.locals) && fits_term (site_around program site) site.term && row_holds (callback_body program site) site.body
 
@@ -92,4 +92,3 @@ pub record HasShapes (program : Program) : Type 0 where
   pub types : list_all (type_so program) program.types ≡ true
   pub monitors : monitors_so program 0 program.monitors ≡ true
   pub actions : list_all (action_so program) program.actions ≡ true
-  pub sites : list_all (site_so program) program.sites ≡ true

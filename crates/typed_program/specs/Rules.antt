@@ -1,18 +1,13 @@
--- Programs that keep the rules of names, paths, changes, ends and event expressions.
-use Rattle.std.specs.Prelude.{◌+◌, ◌≡◌, ◌&&◌, ◌||◌, ◌∷◌, ◌++◌}
-use Rattle.typed_program.specs.Common.{ℕ, zero, suc, Bool, true, false, not, nat_lt, List, [], length, map, Option, Some, None, is_some, slice_get, list_all, Shape}
+-- Monitors and actions that keep the rules of names, paths, changes and ends.
+use Rattle.std.specs.Prelude.{◌≡◌, ◌&&◌, ◌||◌, ◌∷◌}
+use Rattle.typed_program.specs.Common.{ℕ, suc, Bool, true, not, List, [], Option, Some, None, is_some, slice_get, list_all, Shape}
 use Rattle.typed_program.specs.declared.expression.TypedExpr.{TypedExpr}
 use Rattle.typed_program.specs.declared.program.Program.{Program}
 use Rattle.typed_program.specs.declared.program.Monitor.{Monitor}
-use Rattle.typed_program.specs.declared.program.Global.{Global}
 use Rattle.typed_program.specs.declared.program.Action.{Action}
-use Rattle.typed_program.specs.declared.program.Site.{Site}
-use Rattle.typed_program.specs.Expressions.{if_known}
-use Rattle.typed_program.specs.Programs.{action_names, callback_names}
+use Rattle.typed_program.specs.Programs.{action_names}
 use Rattle.typed_program.specs.Paths.{Visible, Held, Sight, plain, path_of}
 use Rattle.typed_program.specs.Courses.{runs, ends_with_return}
-use Rattle.typed_program.specs.TermRules.{term_lawful}
-use Rattle.typed_program.specs.Mentions.{names_captured}
 
 abbrev pub list_of : Option ℕ → List ℕ
 list_of None = []
@@ -26,19 +21,14 @@ specials (Some m) = m.onload ∷ list_of m.ondie
 abbrev pub special_in : Program → ℕ → List ℕ
 special_in program monitor = specials (slice_get program.monitors monitor)
 
--- a callback where it sees these names; it names what it takes along, and each of its own sites stands behind it
-unfoldable pub callback_lawful : ℕ → Program → ℕ → List Visible → Bool
-callback_lawful zero program n visible = false
-callback_lawful (suc depth) program n visible = if_known (λ site. term_lawful program.types (length site.bound) site.term && names_captured program.sites site && runs (callback_names program site) program.sites (special_in program site.monitor) (λ m inner. nat_lt n m && callback_lawful depth program m inner) site.body visible) (slice_get program.sites n)
-
 -- parameters, whose numbers begin with this one
 abbrev pub params_from : ℕ → List Shape → List Visible
 params_from n [] = []
 params_from n (s ∷ ss) = record { number = n; kind = Held } ∷ params_from (suc n) ss
 
--- the callbacks of an action nest at most as deep as there are sites
+-- the body of an action where its parameters are visible
 abbrev pub action_lawful : Program → Action → Bool
-action_lawful program action = runs (action_names program action) program.sites (special_in program action.monitor) (callback_lawful (suc (length program.sites)) program) action.body (params_from 0 action.params) && (not (is_some action.result) || ends_with_return action.body)
+action_lawful program action = runs (action_names program action) program.sites (special_in program action.monitor) 0 action.body (params_from 0 action.params) && (not (is_some action.result) || ends_with_return action.body)
 
 abbrev pub nothing_visible : Sight
 nothing_visible = record { visible = []; special = [] }

@@ -1,6 +1,6 @@
 -- A place that is assigned keeps the rules: its variable is visible, its steps go on from there, and its end may be changed.
 use Rattle.std.proofs.Common.{◌≡◌, ◌&&◌}
-use Rattle.program_laws.proofs.Common.{ℕ, Bool, true, false, List, map, length, Option, Some, None, is_some, slice_get, refl, sym, ap, subst, ◌∙◌, AllByRecursion, and_from, Spot, Shape, TypedExpr, out-TypedExpr, roll-TypedExpr, TypedNode, TypedSuffix, Site, Variable, Names, Sight, Visible, Path, is_reference_of, visible_at, goes, end_of, may_change, path_of, Seen, SeenKind, Judged, Walk, Demand, outer_code, variable, name_found, Part, known, Step, demand_before, walk_found, variable_layer, variable_of, target_at, target_of, Target, KnowsName, by_number, is_barred}
+use Rattle.program_laws.proofs.Common.{ℕ, true, false, List, map, length, Option, Some, None, is_some, slice_get, refl, sym, ap, subst, ◌∙◌, AllByRecursion, and_from, Spot, Shape, TypedExpr, out-TypedExpr, roll-TypedExpr, TypedNode, TypedSuffix, Site, Variable, Names, Sight, Visible, Path, is_reference_of, visible_at, goes, end_of, may_change, path_of, Seen, SeenKind, Judged, Walk, Demand, outer_code, variable, name_found, Part, known, Step, demand_before, walk_found, variable_layer, variable_of, target_at, target_of, Target, KnowsName, by_number, is_barred}
 use Rattle.typed_program.specs.declared.expression.TypedNode.TheVariants as made
 use Rattle.typed_program.specs.declared.statement.Variable.TheVariants as variables
 use Rattle.typed_program.specs.Courses.{place_root}
@@ -21,37 +21,37 @@ use Rattle.program_laws.proofs.Lawful.Walks.{Done, walked_kept}
 
 module _ (names : Names) (sight : Sight) where
   -- where a place with this variable begins
-  abbrev begins_at : List Site → (ℕ → List Visible → Bool) → Variable → Option Begins
-  begins_at sites callback v = place_root names sites sight.special callback sight.visible v
+  abbrev begins_at : List Site → ℕ → Variable → Option Begins
+  begins_at sites low v = place_root names sites sight.special low sight.visible v
 
   -- an expression that is a variable: its place begins where its path does
   pub record IsRooted (e : TypedExpr) : Type 0 where
-    pub root_same : (sites : List Site) (callback : ℕ → List Visible → Bool) → place_root names sites sight.special callback sight.visible (variable_of (out-TypedExpr e).node) ≡ (path_of sight e).root
+    pub root_same : (sites : List Site) (low : ℕ) → place_root names sites sight.special low sight.visible (variable_of (out-TypedExpr e).node) ≡ (path_of sight e).root
     pub root_there : is_some (path_of sight e).root ≡ true
 
   -- a node that is a variable
   record NodeRooted (n : TypedNode) (s : Option Shape) : Type 0 where
-    root_same : (sites : List Site) (callback : ℕ → List Visible → Bool) → begins_at sites callback (variable_of n) ≡ (node_pathed sight n s).root
+    root_same : (sites : List Site) (low : ℕ) → begins_at sites low (variable_of n) ≡ (node_pathed sight n s).root
     root_there : is_some (node_pathed sight n s).root ≡ true
 
   global_rooted : (n : ℕ) (s : Option Shape) → NodeRooted (made.Global n) s
   global_rooted n s =
       let is = ap (λ (p : Path). p.root) (global_path sight n s) in
       record {
-        root_same = λ sites callback. ap (λ d. begins_at sites callback (variable_layer d)) (made.outs-Global n) ∙ sym is;
+        root_same = λ sites low. ap (λ d. begins_at sites low (variable_layer d)) (made.outs-Global n) ∙ sym is;
         root_there = ap (λ (o : Option Begins). is_some o) is;
       }
 
-  local_begins : (sites : List Site) (callback : ℕ → List Visible → Bool) (n : ℕ) (v : Visible) → visible_at sight.visible n ≡ Some v → begins_at sites callback (variables.Local n) ≡ Some (begins_of (is_reference_of (slice_get names.locals n)) v)
-  local_begins sites callback n v at = ap (λ (o : Option Visible). elim o as (λ x. Option Begins) [ None ↦ None | Some w ↦ Some (begins_of (is_reference_of (slice_get names.locals n)) w) ]) at
+  local_begins : (sites : List Site) (low : ℕ) (n : ℕ) (v : Visible) → visible_at sight.visible n ≡ Some v → begins_at sites low (variables.Local n) ≡ Some (begins_of (is_reference_of (slice_get names.locals n)) v)
+  local_begins sites low n v at = ap (λ (o : Option Visible). elim o as (λ x. Option Begins) [ None ↦ None | Some w ↦ Some (begins_of (is_reference_of (slice_get names.locals n)) w) ]) at
 
   local_rooted : (n : ℕ) (s : Option Shape) (v : Visible) → slice_get names.locals n ≡ s → visible_at sight.visible n ≡ Some v → NodeRooted (made.Local n) s
   local_rooted n s v known at =
       let is = ap (λ (p : Path). p.root) (local_path sight n s v at) in
       record {
-        root_same = λ sites callback.
-            ap (λ d. begins_at sites callback (variable_layer d)) (made.outs-Local n)
-            ∙ local_begins sites callback n v at
+        root_same = λ sites low.
+            ap (λ d. begins_at sites low (variable_layer d)) (made.outs-Local n)
+            ∙ local_begins sites low n v at
             ∙ ap (λ (o : Option Shape). Some (begins_of (is_reference_of o) v)) known
             ∙ sym is;
         root_there = ap (λ (o : Option Begins). is_some o) is;
@@ -67,7 +67,7 @@ module _ (names : Names) (sight : Sight) where
   made_rooted n s r =
       let root : (path_of sight (roll-TypedExpr record { shape = s; node = n })).root ≡ (node_pathed sight n s).root = ap (λ (p : Path). p.root) (path_made sight s n) in
       record {
-        root_same = λ sites callback. ap (λ (m : TypedNode). begins_at sites callback (variable_of m)) (node_of_made sight s n) ∙ r.root_same sites callback ∙ sym root;
+        root_same = λ sites low. ap (λ (m : TypedNode). begins_at sites low (variable_of m)) (node_of_made sight s n) ∙ r.root_same sites low ∙ sym root;
         root_there = ap (λ (o : Option Begins). is_some o) root ∙ r.root_there;
       }
 
@@ -93,7 +93,7 @@ module _ (names : Names) (sight : Sight) where
 
   -- ---- what is assigned
 
-  target_lawful : (v : Variable) (steps : List TypedSuffix) (o : Option Shape) → ((sites : List Site) (callback : ℕ → List Visible → Bool) → (is_some (begins_at sites callback v) && goes (begins_at sites callback v) (gone sight steps) && may_change (end_of (begins_at sites callback v) (gone sight steps))) ≡ true) → PlaceLawful names sight (target_at v steps o).place
+  target_lawful : (v : Variable) (steps : List TypedSuffix) (o : Option Shape) → ((sites : List Site) (low : ℕ) → (is_some (begins_at sites low v) && goes (begins_at sites low v) (gone sight steps) && may_change (end_of (begins_at sites low v) (gone sight steps))) ≡ true) → PlaceLawful names sight (target_at v steps o).place
   target_lawful v steps (Some s) h = record { assigned = h }
   target_lawful v steps None h = record { assigned = h }
 
@@ -101,8 +101,8 @@ module _ (names : Names) (sight : Sight) where
   walk_assigned first walk r d =
       let from = (path_of sight first).root in
       let steps = gone sight walk.suffixes in
-      target_lawful (variable_of (out-TypedExpr walk.first).node) walk.suffixes walk.shape (λ sites callback.
-      let is : begins_at sites callback (variable_of (out-TypedExpr walk.first).node) ≡ from = ap (λ (e : TypedExpr). begins_at sites callback (variable_of (out-TypedExpr e).node)) d.begins ∙ r.root_same sites callback in
+      target_lawful (variable_of (out-TypedExpr walk.first).node) walk.suffixes walk.shape (λ sites low.
+      let is : begins_at sites low (variable_of (out-TypedExpr walk.first).node) ≡ from = ap (λ (e : TypedExpr). begins_at sites low (variable_of (out-TypedExpr e).node)) d.begins ∙ r.root_same sites low in
       ap (λ (o : Option Begins). is_some o && goes o steps && may_change (end_of o steps)) is
       ∙ and_from (is_some from && goes from steps) (may_change (end_of from steps))
       (and_from (is_some from) (goes from steps) r.root_there d.comes.walked_well.goes_well)

@@ -1,13 +1,13 @@
 -- What expressions, places, arguments and event expressions keep where no fault is found in them.
 use Rattle.std.proofs.Common.{◌≡◌}
-use Rattle.program_laws.proofs.Common.{ℕ, length, map, List, [], Bool, true, false, list_all, EventExpr, Expr, Place, Site, TypedTerm, assigns, Names, mentions, all_mention, place_mentions, Sight, Visible, path_of, term_lawful, Scope, ParamHead, Table, Demand, typed_arguments, place_found, expr_found, term_found, expr_names, place_names, event_names, exprs_name, KnowsTable, KnowsNamed, SeesNamed, KeepsSpecial, permitted, Mentioned}
+use Rattle.program_laws.proofs.Common.{ℕ, length, map, List, [], true, false, list_all, EventExpr, Expr, Place, Site, TypedTerm, assigns, Names, mentions, all_mention, place_mentions, Sight, path_of, term_lawful, Scope, ParamHead, Table, Demand, typed_arguments, place_found, expr_found, term_found, expr_names, place_names, event_names, exprs_name, KnowsTable, KnowsNamed, SeesNamed, KeepsSpecial, permitted, Mentioned}
 use Rattle.typed_program.specs.declared.statement.TypedPlace.{TypedPlace}
 use Rattle.typed_program.specs.Paths.{plain}
 use Rattle.expr_check.specs.Expressions.{part_of as expr_part}
 
 -- a place that is assigned: a visible variable, steps that keep the rules, and an end that may be changed
 pub record PlaceLawful (names : Names) (sight : Sight) (place : TypedPlace) : Type 0 where
-  pub assigned : (sites : List Site) (callback : ℕ → List Visible → Bool) → assigns names sites sight.special callback sight.visible place ≡ true
+  pub assigned : (sites : List Site) (low : ℕ) → assigns names sites sight.special low sight.visible place ≡ true
 
 pub record TermLawful (names : Names) (sight : Sight) (typed : TypedTerm) : Type 0 where
   pub term : term_lawful names.types (length typed.bound) typed.term ≡ true

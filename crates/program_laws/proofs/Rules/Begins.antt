@@ -27,6 +27,7 @@ params_seen n m (p ∷ ps) (s ∷ shapes) front e few is below =
       at = y;
       is_at = ap (visible_at (front ++ y ∷ params_visible (suc n) shapes)) number ∙ found_behind n front (y ∷ params_visible (suc n) shapes) below ∙ found_here n y (params_visible (suc n) shapes) refl;
       kind = refl;
+      refers = refl;
     } in (
       here,
       subst (λ (vs : List Visible). AllByRecursion (SeesName vs) (params_from (m + 1) ps)) (append_assoc front (y ∷ []) (params_visible (suc n) shapes))

@@ -1,55 +1,42 @@
 -- The names that a callback takes along and those that are bound: what is visible where it begins.
 use Rattle.std.proofs.Common.{◌≡◌, ◌+◌, ◌<◌, ◌==◌, ◌∷◌, ◌++◌, ◌&&◌, if◌then◌else◌}
-use Rattle.program_laws.proofs.Common.{ℕ, zero, suc, length, map, List, [], Some, None, Bool, true, false, is_some, Option, refl, ap, sym, ◌∙◌, slice_get, arith, append_assoc, AllByRecursion, list_all, list_any, or_left, or_right, lt-ltb, eq-eqb, Local, taken_from, captured_from, bound_from, Mention, Kind, Held, Bound, Visible, visible_at, Seen, SeenKind, SeesName, kind_seen, is_outer, outer_kind}
-use Rattle.typed_program.specs.Courses.{ascend}
+use Rattle.program_laws.proofs.Common.{ℕ, zero, suc, length, map, List, [], Some, Bool, true, false, not, refl, ap, sym, ◌∙◌, slice_get, arith, list_any, or_left, or_right, lt-ltb, eq-eqb, Local, captured_from, bound_from, kind_inside, Mention, Kind, Bound, Visible, visible_at, Seen, SeenKind, bound_refers, kind_seen, is_outer, outer_kind}
+use Rattle.typed_program.specs.Courses.{ascend, may_take}
 use Rattle.typed_program.specs.Mentions.{all_named}
 use Rattle.typed_program.specs.Paths.{Free}
-use Rattle.typed_program.specs.Shapes.{is_reference}
 use Rattle.type_table.specs.declared.scope.SeenKind.TheVariants as kind
 use Rattle.expr_rules.specs.Places.{is_global}
 use Rattle.stmt_check.specs.Bodies.{local_of}
-use Rattle.program_laws.proofs.Rules.Lookups.{Below, below_more, below_both, found_behind, found_here}
+use Rattle.program_laws.proofs.Rules.Lookups.{Below, below_more, found_behind, found_here}
 use Rattle.program_laws.proofs.Shapes.Lists.{both_true, none_isnt}
 use Rattle.program_laws.proofs.Shapes.Rising.{Rising}
 
 -- ---- names that are taken along
 
--- a name of this kind, of reference type or not, at its place
-abbrev pub taken_as : Kind → Bool → ℕ → List Visible
-taken_as k reference at = elim k [ Bound ↦ record { number = at; kind = Bound } ∷ [] | _ ↦ if reference then [] else record { number = at; kind = Free } ∷ [] ]
-
-as_below : (k : Kind) (r : Bool) (at n : ℕ) → at < n → Below n (taken_as k r at)
-as_below Bound r at n h = (h, tt)
-as_below Free true at n h = tt
-as_below Free false at n h = (h, tt)
-as_below Held true at n h = tt
-as_below Held false at n h = (h, tt)
-
-taken_below : (c : Local) (at : ℕ) (o : Option Visible) (n : ℕ) → at < n → Below n (taken_from c at o)
-taken_below c at None n h = tt
-taken_below c at (Some v) n h = as_below v.kind (is_reference c.shape) at n h
+-- of reference type, or not
+abbrev pub kind_of : Bool → Kind
+kind_of r = if r then Bound else Free
 
 -- their numbers are their places
-pub captured_below : (v : List Visible) (at : ℕ) (cs : List Local) → Below (at + length cs) (captured_from v at cs)
-captured_below v at [] = tt
-captured_below v at (c ∷ cs) = below_both (at + length (c ∷ cs)) (taken_from c at (visible_at v c.number)) (captured_from v (suc at) cs)
-    (taken_below c at (visible_at v c.number) (at + length (c ∷ cs)) (omega arith))
-    (below_more (suc at + length cs) (at + length (c ∷ cs)) (captured_from v (suc at) cs) (omega arith) (captured_below v (suc at) cs))
+pub captured_below : (at : ℕ) (cs : List Local) → Below (at + length cs) (captured_from at cs)
+captured_below at [] = tt
+captured_below at (c ∷ cs) = (omega arith, below_more (suc at + length cs) (at + length (c ∷ cs)) (captured_from (suc at) cs) (omega arith) (captured_below (suc at) cs))
 
 -- the one at a place is found by it
-pub captured_found : (v : List Visible) (at : ℕ) (cs : List Local) (rest : List Visible) (j : ℕ) (c : Local) (y : Visible) → slice_get cs j ≡ Some c → taken_from c (at + j) (visible_at v c.number) ≡ y ∷ [] → y.number ≡ at + j → visible_at (captured_from v at cs ++ rest) (at + j) ≡ Some y
-captured_found v at [] rest j c y is taken number = none_isnt c is
-captured_found v at (x ∷ cs) rest zero c y is taken number =
+pub captured_found : (at : ℕ) (cs : List Local) (rest : List Visible) (j : ℕ) (c : Local) → slice_get cs j ≡ Some c → visible_at (captured_from at cs ++ rest) (at + j) ≡ Some (record { number = at + j; kind = kind_inside c.shape })
+captured_found at [] rest j c is = none_isnt c is
+captured_found at (x ∷ cs) rest zero c is =
     let same : x ≡ c = cc in
-    let z : at + 0 ≡ at = omega arith in
-    let here : taken_from x at (visible_at v x.number) ≡ y ∷ [] = ap (λ (d : Local). taken_from d at (visible_at v d.number)) same ∙ ap (λ (n : ℕ). taken_from c n (visible_at v c.number)) (sym z) ∙ taken in
-    ap (λ (ys : List Visible). visible_at ((ys ++ captured_from v (suc at) cs) ++ rest) (at + 0)) here ∙ found_here (at + 0) y (captured_from v (suc at) cs ++ rest) number
-captured_found v at (x ∷ cs) rest (suc j) c y is taken number =
+    let z : at ≡ at + 0 = omega arith in
+    found_here (at + 0) (record { number = at; kind = kind_inside x.shape }) (captured_from (suc at) cs ++ rest) z
+    ∙ ap (λ (n : ℕ). Some (record { number = n; kind = kind_inside x.shape })) z
+    ∙ ap (λ (d : Local). Some (record { number = at + 0; kind = kind_inside d.shape })) same
+captured_found at (x ∷ cs) rest (suc j) c is =
     let z : suc at + j ≡ at + suc j = omega arith in
-    ap (λ (ys : List Visible). visible_at ys (at + suc j)) (append_assoc (taken_from x at (visible_at v x.number)) (captured_from v (suc at) cs) rest)
-    ∙ found_behind (at + suc j) (taken_from x at (visible_at v x.number)) (captured_from v (suc at) cs ++ rest) (taken_below x at (visible_at v x.number) (at + suc j) (omega arith))
-    ∙ ap (visible_at (captured_from v (suc at) cs ++ rest)) (sym z)
-    ∙ captured_found v (suc at) cs rest j c y is (ap (λ (n : ℕ). taken_from c n (visible_at v c.number)) z ∙ taken) (number ∙ sym z)
+    found_behind (at + suc j) (record { number = at; kind = kind_inside x.shape } ∷ []) (captured_from (suc at) cs ++ rest) (omega arith, tt)
+    ∙ ap (visible_at (captured_from (suc at) cs ++ rest)) (sym z)
+    ∙ captured_found (suc at) cs rest j c is
+    ∙ ap (λ (n : ℕ). Some (record { number = n; kind = kind_inside c.shape })) z
 
 -- ---- names that are bound
 
@@ -73,15 +60,35 @@ bound_found at (b ∷ bs) (suc i) h =
 
 -- ---- kinds
 
--- a name that may be named in the callback is taken along, and is seen as it is there
-pub taken_kind : (k : SeenKind) (r : Bool) (at : ℕ) → is_global k ≡ false → (is_outer (outer_kind k) && r) ≡ false → taken_as (kind_seen k) r at ≡ record { number = at; kind = kind_seen (outer_kind k) } ∷ []
-taken_kind kind.Global r at other free = cc
-taken_kind kind.Bound r at other free = refl
-taken_kind kind.Param r at other free = ap (λ (b : Bool). if b then [] else record { number = at; kind = Free } ∷ []) free
-taken_kind kind.Local r at other free = ap (λ (b : Bool). if b then [] else record { number = at; kind = Free } ∷ []) free
-taken_kind kind.Loop r at other free = ap (λ (b : Bool). if b then [] else record { number = at; kind = Free } ∷ []) free
-taken_kind kind.OuterLocal r at other free = ap (λ (b : Bool). if b then [] else record { number = at; kind = Free } ∷ []) free
-taken_kind kind.OuterFixed r at other free = ap (λ (b : Bool). if b then [] else record { number = at; kind = Free } ∷ []) free
+-- a name that may be named in the callback is seen as it is there
+pub kind_there : (k : SeenKind) (r : Bool) → is_global k ≡ false → bound_refers k r ≡ true → (is_outer (outer_kind k) && r) ≡ false → kind_of r ≡ kind_seen (outer_kind k)
+kind_there kind.Global r other refers free = cc
+kind_there kind.Bound r other refers free = ap kind_of refers
+kind_there kind.Param r other refers free = ap kind_of free
+kind_there kind.Local r other refers free = ap kind_of free
+kind_there kind.Loop r other refers free = ap kind_of free
+kind_there kind.OuterLocal r other refers free = ap kind_of free
+kind_there kind.OuterFixed r other refers free = ap kind_of free
+
+-- and may be taken along
+pub may_be_taken : (k : SeenKind) (r : Bool) → is_global k ≡ false → bound_refers k r ≡ true → (is_outer (outer_kind k) && r) ≡ false → may_take r (kind_seen k) ≡ true
+may_be_taken kind.Global r other refers free = cc
+may_be_taken kind.Bound r other refers free = refers
+may_be_taken kind.Param r other refers free = ap not free
+may_be_taken kind.Local r other refers free = ap not free
+may_be_taken kind.Loop r other refers free = ap not free
+may_be_taken kind.OuterLocal r other refers free = ap not free
+may_be_taken kind.OuterFixed r other refers free = ap not free
+
+-- a co-assignment is one in the callback
+pub refers_there : (k : SeenKind) (r : Bool) → bound_refers k r ≡ true → bound_refers (outer_kind k) r ≡ true
+refers_there kind.Global r h = refl
+refers_there kind.Bound r h = h
+refers_there kind.Param r h = refl
+refers_there kind.Local r h = refl
+refers_there kind.Loop r h = refl
+refers_there kind.OuterLocal r h = refl
+refers_there kind.OuterFixed r h = refl
 
 -- and may be named around it
 pub free_outside : (k : SeenKind) (r : Bool) → (is_outer (outer_kind k) && r) ≡ false → (is_outer k && r) ≡ false
@@ -100,11 +107,6 @@ pub rising_ascend : (lo : ℕ) (xs : List Seen) (hi : ℕ) → Rising lo xs hi �
 rising_ascend lo [] hi h = refl
 rising_ascend lo (x ∷ []) hi h = refl
 rising_ascend lo (x ∷ y ∷ xs) hi h = both_true (lt-ltb x.number y.number (let p = h.1.0 in omega arith)) (rising_ascend (suc x.number) (y ∷ xs) hi h.1)
-
--- names that are seen are visible
-pub all_visible : (v : List Visible) (xs : List Seen) → AllByRecursion (SeesName v) xs → list_all (λ (c : Local). is_some (visible_at v c.number)) (map local_of xs) ≡ true
-all_visible v [] h = refl
-all_visible v (x ∷ xs) h = both_true (ap is_some h.0.is_at) (all_visible v xs h.1)
 
 -- names whose places are mentioned are each named
 pub named_all : (mention : Mention) (at : ℕ) (xs : List Seen) → ((j : ℕ) (x : Seen) → slice_get xs j ≡ Some x → mention (at + j) ≡ true) → all_named mention at (map local_of xs) ≡ true

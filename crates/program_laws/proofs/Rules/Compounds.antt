@@ -29,7 +29,7 @@ mentioned_behind s t named m h k = mentioned_before s t h.more named m h.names k
 
 -- what holds of a row
 abbrev pub KeepsRow : (f : Frame) (around : Around) → Law f around.table → Named → (List Shape → List Visible) → State → List Shape → List Stmt → State → Type 0
-KeepsRow f around law named v s all xs t = Kept f law.low around.looped named (v all) s t (row_of (map (reading f law.callback all) xs)) (any_mention (map (mentions_in f) xs))
+KeepsRow f around law named v s all xs t = Kept f law.low around.looped named (v all) s t (row_of (map (reading f law.low all) xs)) (any_mention (map (mentions_in f) xs))
 
 row_more : (f : Frame) (low : ℕ) (looped : Bool) (one others : Named) (v : List Visible) (s t u : State) (r : Reading) (m : Mention) (rs : List Reading) (ms : List Mention) → Kept f low looped one v s t r m → Kept f low looped others (r v looped).visible t u (row_of rs) (any_mention ms) → Kept f low looped (either one others) v s u (row_of (r ∷ rs)) (any_mention (m ∷ ms))
 row_more f low looped one others v s t u r m rs ms h k = record {
@@ -50,8 +50,8 @@ module _ (f : Frame) (around : Around) (fitting : Fitting f around) (law : Law f
       law_bind f {Q = λ all x t. Keeps f around law p.names v s all x t} (p.reads around) (λ x. before_all x (each (map (λ p. p.reads around) parts))) s
       (law_as f g (λ all h q. q) (keeps.0 f around fitting (within_first p.names (named_in parts) within) law k v s))
       (law_put f (p.reads around s).part.part (each (map (λ p. p.reads around) parts)) (p.reads around s).part.state
-      (law_as f (λ all h. h) (λ all h q. row_more f law.low around.looped p.names (named_in parts) (v all) s (p.reads around s).part.state _ (reading f law.callback all (p.reads around s).part.part) (mentions_in f (p.reads around s).part.part) (map (reading f law.callback all) (row_read around parts (p.reads around s).part.state).part.part) (map (mentions_in f) (row_read around parts (p.reads around s).part.state).part.part) h.1 q)
-      (rows_law {k = k} (λ all. H all × Keeps f around law p.names v s all (p.reads around s).part.part (p.reads around s).part.state) parts keeps.1 (within_second p.names (named_in parts) within) (λ all. (reading f law.callback all (p.reads around s).part.part (v all) around.looped).visible) (p.reads around s).part.state (λ all h. h.1.behind.sees))))
+      (law_as f (λ all h. h) (λ all h q. row_more f law.low around.looped p.names (named_in parts) (v all) s (p.reads around s).part.state _ (reading f law.low all (p.reads around s).part.part) (mentions_in f (p.reads around s).part.part) (map (reading f law.low all) (row_read around parts (p.reads around s).part.state).part.part) (map (mentions_in f) (row_read around parts (p.reads around s).part.state).part.part) h.1 q)
+      (rows_law {k = k} (λ all. H all × Keeps f around law p.names v s all (p.reads around s).part.part (p.reads around s).part.state) parts keeps.1 (within_second p.names (named_in parts) within) (λ all. (reading f law.low all (p.reads around s).part.part (v all) around.looped).visible) (p.reads around s).part.state (λ all h. h.1.behind.sees))))
 
 -- ---- blocks
 
@@ -70,13 +70,13 @@ module _ (rules : LawRules) (f : Frame) (around : Around) (fitting : Fitting f a
   Row parts = any_of (map (λ p. p.names) parts)
 
   -- a row as a block
-  pub closed_row : {k : ℕ} (H : List Shape → Type 0) (parts : List Part) → AllByRecursion PartKeeps parts → Within (Row parts) f.named → (v : List Shape → List Visible) (s : State) → ((all : List Shape) → H all → Sees f law.low (v all) s) → Claims f k k H (λ all xs t. Closed f law.low around.looped (Row parts) (v all) s t (row_of (map (reading f law.callback all) xs)) (any_mention (map (mentions_in f) xs))) s (scoped (row_read around parts) s)
+  pub closed_row : {k : ℕ} (H : List Shape → Type 0) (parts : List Part) → AllByRecursion PartKeeps parts → Within (Row parts) f.named → (v : List Shape → List Visible) (s : State) → ((all : List Shape) → H all → Sees f law.low (v all) s) → Claims f k k H (λ all xs t. Closed f law.low around.looped (Row parts) (v all) s t (row_of (map (reading f law.low all) xs)) (any_mention (map (mentions_in f) xs))) s (scoped (row_read around parts) s)
   closed_row H parts keeps within v s g = law_scoped f (row_read around parts) s (rows_law f around fitting law H parts keeps within v s g) (λ all x t h q. closed_of (g all h) q)
 
-  closed_turns : {k : ℕ} (H : List Shape → Type 0) (parts : List Part) → AllByRecursion PartKeeps parts → Within (Row parts) f.named → (v : List Shape → List Visible) (s : State) → ((all : List Shape) → H all → Sees f law.low (v all) s) → Claims f k k H (λ all xs t. Closed f law.low true (Row parts) (v all) s t (row_of (map (reading f law.callback all) xs)) (any_mention (map (mentions_in f) xs))) s (scoped (row_read (in_loop around) parts) s)
+  closed_turns : {k : ℕ} (H : List Shape → Type 0) (parts : List Part) → AllByRecursion PartKeeps parts → Within (Row parts) f.named → (v : List Shape → List Visible) (s : State) → ((all : List Shape) → H all → Sees f law.low (v all) s) → Claims f k k H (λ all xs t. Closed f law.low true (Row parts) (v all) s t (row_of (map (reading f law.low all) xs)) (any_mention (map (mentions_in f) xs))) s (scoped (row_read (in_loop around) parts) s)
   closed_turns H parts keeps within v s g = law_scoped f (row_read (in_loop around) parts) s (rows_law f (in_loop around) (in_loop_fits f around fitting) law H parts keeps within v s g) (λ all x t h q. closed_of (g all h) q)
 
-  closed_part : {k : ℕ} (H : List Shape → Type 0) (p : Part) → PartKeeps p → Within p.names f.named → (v : List Shape → List Visible) (s : State) → ((all : List Shape) → H all → Sees f law.low (v all) s) → Claims f k k H (λ all x t. Closed f law.low around.looped p.names (v all) s t (reading f law.callback all x) (mentions_in f x)) s (scoped (p.reads around) s)
+  closed_part : {k : ℕ} (H : List Shape → Type 0) (p : Part) → PartKeeps p → Within p.names f.named → (v : List Shape → List Visible) (s : State) → ((all : List Shape) → H all → Sees f law.low (v all) s) → Claims f k k H (λ all x t. Closed f law.low around.looped p.names (v all) s t (reading f law.low all x) (mentions_in f x)) s (scoped (p.reads around) s)
   closed_part {k} H p keeps within v s g = law_scoped f (p.reads around) s (law_as f g (λ all h q. q) (keeps f around fitting within law k v s)) (λ all x t h q. closed_of (g all h) q)
 
   -- a row in braces
@@ -88,7 +88,7 @@ module _ (rules : LawRules) (f : Frame) (around : Around) (fitting : Fitting f a
   -- ---- `if`
 
   record OtherKept (other : Option Part) (v : List Visible) (s : State) (all : List Shape) (o : Option Stmt) (t : State) : Type 0 where
-    lawful : if_there (option_map (reading f law.callback all) o) v around.looped ≡ true
+    lawful : if_there (option_map (reading f law.low all) o) v around.looped ≡ true
     behind : Behind f law.low s t v
     mentioned : Mentioned s.scope (if_any (option_map (λ p. p.names) other)) (if_mention (option_map (mentions_in f) o))
 
@@ -97,7 +97,7 @@ module _ (rules : LawRules) (f : Frame) (around : Around) (fitting : Fitting f a
   other_law H (Some p) keeps within v s g = law_some f (scoped (p.reads around)) s (law_as f (λ all h. h) (λ all h q. record { lawful = q.lawful; behind = q.behind; mentioned = q.mentioned }) (closed_part H p keeps within v s g))
 
   if_kept : (named : Named) (v : List Shape → List Visible) (s t : State) (all : List Shape) (test : TypedExpr) (part : Stmt) (o : Option Stmt)
-      → plain (path_of (sight_in f (v all)) test) ≡ true → (reading f law.callback all part (v all) around.looped).lawful ≡ true → if_there (option_map (reading f law.callback all) o) (v all) around.looped ≡ true
+      → plain (path_of (sight_in f (v all)) test) ≡ true → (reading f law.low all part (v all) around.looped).lawful ≡ true → if_there (option_map (reading f law.low all) o) (v all) around.looped ≡ true
       → Behind f law.low s t (v all) → Mentioned s.scope named (either_mention (mentions test) (either_mention (mentions_in f part) (if_mention (option_map (mentions_in f) o))))
       → Keeps f around law named v s all (made.If test part o) t
   if_kept named v s t all test part None one two three behind told = kept_as f around law named v s t all (layer.If test part None) _ (made.rolls-If test part None) (record { lawful = both_true (both_true one two) three; behind = behind; mentioned = told })

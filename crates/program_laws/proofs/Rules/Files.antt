@@ -5,6 +5,7 @@ use Rattle.epl_tree.specs.declared.unit.Unit.{Unit as File}
 use Rattle.type_table.specs.Heads.{monitor_head}
 use Rattle.program_laws.proofs.Lawful.Rules.{LawRules}
 use Rattle.program_laws.proofs.Rules.Members.{MembersKeep, ActionsKeep, members_keep}
+use Rattle.program_laws.proofs.Rules.Sites.{SitesKeep, keep_both, keep_none}
 use Rattle.program_laws.proofs.Rules.Specials.{special_apart}
 use Rattle.program_laws.proofs.Shapes.Bodies.{world_of}
 use Rattle.program_laws.proofs.Shapes.Lists.{Extends, extends_same, extends_on, every_true, all_by_place, past, last_is, join}
@@ -21,6 +22,7 @@ MonitorsKeep from monitors = (k : ℕ) (x : Monitor) → from ≤ k → slice_ge
 -- what is kept by what was made, where the program has it
 pub record AllKeeps (program : Program) (old new : Made) : Type 0 where
   pub sites : Extends old.sites new.sites
+  pub sites_keep : Finished program new.sites → SitesKeep program (length old.sites) (length new.sites)
   pub monitors : MonitorsKeep (length old.monitors) new.monitors
   pub actions : Finished program new.sites → ActionsKeep program (length old.actions) new.actions
 
@@ -38,6 +40,7 @@ module _ (rules : LawRules) (shapes : Rules) (program : Program) (table : Table)
       let good : monitor_lawful (monitor_of table m.name.text mid) ≡ true = every_true (λ (g : Global). initial_lawful g.initial) mid.globals (all_by_place mid.globals (λ i x at. keep.globals i x (let zero_globals = standing.none in omega arith) at)) in
       record {
         sites = hold.sites;
+        sites_keep = keep.sites;
         monitors = λ i x from at. last i x good members.monitors from at;
         actions = keep.actions;
       }
@@ -56,11 +59,13 @@ module _ (rules : LawRules) (shapes : Rules) (program : Program) (table : Table)
   holding = record {
     same = λ made. record {
       sites = extends_same made.sites;
+      sites_keep = λ finished. keep_none program (length made.sites);
       monitors = λ k x from at. past k (length made.monitors) made.monitors x (omega arith) from at;
       actions = λ finished k x from at. past k (length made.actions) made.actions x (omega arith) from at;
     };
     both = λ a b c monitors actions first second. record {
       sites = extends_on first.sites second.sites;
+      sites_keep = λ finished. keep_both program (length a.sites) (length b.sites) (length c.sites) (first.sites_keep (λ i x at. finished i x (second.sites.at i x at))) (second.sites_keep finished);
       monitors = join (λ k x. monitor_lawful x ≡ true) (length a.monitors) b.monitors c.monitors monitors first.monitors second.monitors;
       actions = λ finished. join (λ k x. action_lawful program x ≡ true) (length a.actions) b.actions c.actions actions (first.actions (λ i x at. finished i x (second.sites.at i x at))) (second.actions finished);
     };

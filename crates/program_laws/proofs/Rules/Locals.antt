@@ -1,6 +1,6 @@
 -- Names that are declared: each is visible by a number of its own from there on.
 use Rattle.std.proofs.Common.{◌≡◌, ◌+◌, ◌≤◌, ◌∷◌, ◌++◌}
-use Rattle.program_laws.proofs.Common.{ℕ, suc, List, [], Some, true, false, nat_le, is_some, Option, refl, sym, ap, subst, ◌∙◌, arith, list_any, Shape, Expr, Name, TypeExpr, Visible, Seen, SeenKind, told, seen_of, type_found, SeesName, is_barred, kind_seen, State, Around, when, short, local_codes, local_read, seen_local, with_local, none, expr_names, exactly, reads, declare_read, declare_as_read}
+use Rattle.program_laws.proofs.Common.{ℕ, suc, List, [], Some, true, false, nat_le, is_some, Option, refl, sym, ap, subst, ◌∙◌, arith, list_any, Shape, Expr, Name, TypeExpr, Visible, Seen, SeenKind, told, seen_of, type_found, SeesName, is_barred, kind_seen, is_known_reference, State, Around, when, short, local_codes, local_read, seen_local, with_local, none, expr_names, exactly, reads, declare_read, declare_as_read}
 use Rattle.typed_program.specs.declared.statement.Stmt.TheVariants as made
 use Rattle.typed_program.specs.declared.statement.Stmt.TheOpen as layer
 use Rattle.typed_program.specs.Courses.{with_local as with_visible}
@@ -38,7 +38,7 @@ name_free name s none =
 -- a name that is declared isn't visible before
 pub name_law : (f : Frame) {k : ℕ} {H : List Shape → Type 0} (name : Name) (s : State) → Claims f k (suc k) H (λ all x t. Unseen s t name.text) s (name_read name s)
 unfolding ◌>>=◌ tells changes
-name_law f name s = law_more f (λ all h. h) (λ all h none before sites q. record { still = record { names = refl; next = refl; sites = omega arith }; free = name_free name s none }) (claims_of (name_claim f name s))
+name_law f name s = law_more f (λ all h. h) (λ all h none before sites q. record { still = record { names = refl; next = refl; sites = omega arith }; free = name_free name s none }) (claims_of refl (name_claim f name s))
 
 -- nor where the same names are visible
 pub unseen_at : (s t : State) (name : List ℕ) → Still s t → list_any (is_called name) s.scope.names ≡ false → list_any (is_called name) t.scope.names ≡ false
@@ -47,14 +47,14 @@ unseen_at s t name still h = ap (list_any (is_called name)) still.names ∙ h
 -- ---- a local more
 
 sees_more : (v : List Visible) (w : List Visible) (x : Seen) → SeesName v x → SeesName (v ++ w) x
-sees_more v w x h = record { at = h.at; is_at = found_front x.number v w h.at h.is_at; kind = h.kind }
+sees_more v w x h = record { at = h.at; is_at = found_front x.number v w h.at h.is_at; kind = h.kind; refers = h.refers }
 
 module _ (f : Frame) (kind : SeenKind) (of : OfLocals kind) (name : List ℕ) (shape : Option Shape) where
   local_sees : (low : ℕ) (v : List Visible) (s : State) → s.next ≤ 65400 → list_any (is_called name) s.scope.names ≡ false → Sees f low v s → Behind f low s (with_local kind name shape s) (with_visible s.next (kind_seen kind) v)
   local_sees low v s few free h =
       let y : Visible = record { number = s.next; kind = kind_seen kind } in
       let seen : Seen = seen_local kind name shape s in
-      let new : SeesName (v ++ y ∷ []) seen = record { at = y; is_at = found_behind s.next v (y ∷ []) h.below ∙ found_here s.next y [] refl; kind = refl } in
+      let new : SeesName (v ++ y ∷ []) seen = record { at = y; is_at = found_behind s.next v (y ∷ []) h.below ∙ found_here s.next y [] refl; kind = refl; refers = of.own (is_known_reference shape) } in
       record {
         sees = record {
           seen = all_append (λ x. f.named x.name ≡ true → is_global x.kind ≡ false → is_barred x ≡ false → SeesName (v ++ y ∷ []) x) s.scope.names (seen ∷ [])
@@ -76,7 +76,7 @@ module _ (f : Frame) (kind : SeenKind) (of : OfLocals kind) (name : List ℕ) (s
   pub local_law : {k : ℕ} {H : List Shape → Type 0} (low : ℕ) (v : List Shape → List Visible) (s : State) → ((all : List Shape) → H all → Sound f.program.types shape) → ((all : List Shape) → H all → Sees f low (v all) s) → ((all : List Shape) → H all → list_any (is_called name) s.scope.names ≡ false)
       → Claims f (suc k) k H (λ all n t. Behind f low s t (with_visible n (kind_seen kind) (v all))) s (local_read kind name shape s)
   unfolding changes
-  local_law {k} low v s sound sees free = law_more f (λ all h. h) (λ all h none before sites q. local_sees low (v all) s (few_numbers k all s before) (free all h) (sees all h)) (claims_of (local_claim f kind of name shape s sound))
+  local_law {k} low v s sound sees free = law_more f (λ all h. h) (λ all h none before sites q. local_sees low (v all) s (few_numbers k all s before) (free all h) (sees all h)) (claims_of refl (local_claim f kind of name shape s sound))
 
 -- ---- declarations
 

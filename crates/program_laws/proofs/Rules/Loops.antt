@@ -8,7 +8,7 @@ use Rattle.type_table.specs.declared.scope.SeenKind.TheVariants as kind
 use Rattle.stmt_check.specs.Bodies.{name_read}
 use Rattle.stmt_check.specs.Captures.{Names as Named}
 use Rattle.stmt_check.specs.Statements.{Part, element_of}
-use Rattle.stmt_check.specs.Steps.{◌>>=◌, pure}
+use Rattle.stmt_check.specs.Steps.{◌>>=◌, pure, looks}
 use Rattle.program_laws.proofs.Lawful.Rules.{LawRules}
 use Rattle.program_laws.proofs.Rules.Claims.{Claims, claims_of, law_bind, law_pure, law_scoped, law_both}
 use Rattle.program_laws.proofs.Rules.Compounds.{rows_law, mentioned_behind}
@@ -46,12 +46,12 @@ module _ (rules : LawRules) (shapes : Rules) (f : Frame) (around : Around) (fitt
       → ((all : List Shape) → H all → (path_of (sight_in f (v all)) items).lawful ≡ true)
       → ((all : List Shape) → H all → Mentioned s.scope (expr_names text) (mentions items))
       → ((all : List Shape) → H all → Still s u)
-      → Claims f (suc k) k H (λ all x t. Turned f law.low around.looped (either (expr_names text) (Row parts)) (v all) s u t (reading f law.callback all x) (mentions_in f x)) u (turn_read around name items parts u)
+      → Claims f (suc k) k H (λ all x t. Turned f law.low around.looped (either (expr_names text) (Row parts)) (v all) s u t (reading f law.low all x) (mentions_in f x)) u (turn_read around name items parts u)
   turn_law H name text items parts keeps within v s u sound sees free fine told still = law_bind f (local_read kind.Loop name.text (element_of (shape_of items))) (λ number. row_read (in_loop around) parts >>= λ parts. pure (made.For number items parts)) u
       (local_law f kind.Loop of_loop name.text (element_of (shape_of items)) law.low v u sound sees free)
       (law_bind f (row_read (in_loop around) parts) (λ parts. pure (made.For _ items parts)) _
       (rows_law f (in_loop around) (in_loop_fits f around fitting) law _ parts keeps within (λ all. with_visible _ Held (v all)) _ (λ all h. h.1.sees))
-      (law_pure f _ _ (λ all h. made_as f law.callback all (Turned f law.low around.looped (either (expr_names text) (Row parts)) (v all) s u _) (layer.For _ items _) _ (made.rolls-For _ items _) (record {
+      (law_pure f _ _ (λ all h. made_as f law.low all (Turned f law.low around.looped (either (expr_names text) (Row parts)) (v all) s u _) (layer.For _ items _) _ (made.rolls-For _ items _) (record {
         lawful = both_true (fine all h.0.0) h.1.lawful;
         same = refl;
         inside = _;
@@ -68,10 +68,11 @@ module _ (rules : LawRules) (shapes : Rules) (f : Frame) (around : Around) (fitt
 
   -- the variable is visible in the turns, and behind the loop it isn't
   pub for_law : {k : ℕ} (name : Name) (items : Expr) (parts : List Part) → AllByRecursion PartKeeps parts → Within (either (expr_names items) (Row parts)) f.named → (v : List Shape → List Visible) (s : State) → Claims f k k (λ all. Sees f law.low (v all) s) (Keeps f around law (either (expr_names items) (Row parts)) v s) s (for_read around name items parts s)
+  unfolding looks
   for_law name items parts keeps within v s = law_bind f (name_read name) (λ _. reads around.table (asked Sequence true) items >>= λ items. scoped (turn_read around name items parts)) s
       (name_law f name s)
       (law_bind f (reads around.table (asked Sequence true) items) (λ items. scoped (turn_read around name items parts)) _
-      (law_both f (claims_of (reads_claim shapes f around fitting (asked Sequence true) items (within_first (expr_names items) (Row parts) within) _ (λ all h. refl)))
+      (law_both f (claims_of refl (reads_claim shapes f around fitting (asked Sequence true) items (within_first (expr_names items) (Row parts) within) _ (λ all h. refl)))
       (reads_law rules f around fitting law (asked Sequence true) items (within_first (expr_names items) (Row parts) within) v _ (λ all h. still_sees h.0 h.1.still)))
       (law_scoped f (turn_read around name _ parts) _
       (turn_law _ name items _ parts keeps (within_second (expr_names items) (Row parts) within) v s _
@@ -81,4 +82,4 @@ module _ (rules : LawRules) (shapes : Rules) (f : Frame) (around : Around) (fitt
       (λ all h. h.1.1.fine)
       (λ all h. mentioned_still s _ (expr_names items) _ h.0.1.still h.1.1.mentioned)
       (λ all h. still_on h.0.1.still h.1.1.still))
-      (λ all x t h q. turned_kept (either (expr_names items) (Row parts)) (v all) s _ t (reading f law.callback all x) (mentions_in f x) h.0.0 (still_on h.0.1.still h.1.1.still) q)))
+      (λ all x t h q. turned_kept (either (expr_names items) (Row parts)) (v all) s _ t (reading f law.low all x) (mentions_in f x) h.0.0 (still_on h.0.1.still h.1.1.still) q)))

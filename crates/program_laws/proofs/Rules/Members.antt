@@ -11,6 +11,7 @@ use Rattle.stmt_check.specs.Steps.{◌>>=◌, pure}
 use Rattle.program_laws.proofs.Lawful.Rules.{LawRules}
 use Rattle.program_laws.proofs.Rules.Actions.{Apart, action_keeps}
 use Rattle.program_laws.proofs.Rules.ParamNames.{ParamsApart, action_apart}
+use Rattle.program_laws.proofs.Rules.Sites.{SitesKeep, keep_both, keep_none}
 use Rattle.program_laws.proofs.Shapes.Bodies.{HeadsKnown, Acting}
 use Rattle.program_laws.proofs.Shapes.Frames.{World}
 use Rattle.program_laws.proofs.Shapes.Lists.{Extends, no_both, no_when, none_isnt, past, behind_last}
@@ -59,13 +60,14 @@ GlobalsKeep from globals = (i : ℕ) (x : Global) → from ≤ i → slice_get g
 pub record MembersKeep (program : Program) (old new : Made) : Type 0 where
   pub globals : GlobalsKeep (length old.globals) new.globals
   pub actions : Finished program new.sites → ActionsKeep program (length old.actions) new.actions
+  pub sites : Finished program new.sites → SitesKeep program (length old.sites) (length new.sites)
 
 module _ (rules : LawRules) (shapes : Rules) (program : Program) (table : Table) (types : table.types ≡ program.types) (few : length program.types ≤ 1000) (kinds : AllByRecursion (KnowsType program.types) program.types) (monitor : ℕ) (world : World program table monitor) (known : HeadsKnown program table monitor) (members : List Member) (first : ℕ) (heads : known.head.actions ≡ actions_from (event_of table) first members) (globals : known.head.globals ≡ globals_in (event_of table) members) (apart : Apart program table monitor) where
   -- what an action makes, with its number in the table
   abbrev Acted : List Member → ActionDecl → Made → Made → ℕ → Type 0
   Acted before a old new m = (world : World program table m) (known : HeadsKnown program table m) → Apart program table m → ParamsApart (action_head (event_of table) 0 a).params known.head.globals → (n : ℕ) → slice_get known.head.actions (short (actions_before before)) ≡ Some (action_head (event_of table) n a)
       → ((i : ℕ) (x : Site) → length old.sites ≤ i → slice_get new.sites i ≡ Some x → slice_get program.sites i ≡ Some x)
-      → (A : Action) × (new.actions ≡ old.actions ++ A ∷ []) × (action_lawful program A ≡ true)
+      → (A : Action) × (new.actions ≡ old.actions ++ A ∷ []) × (action_lawful program A ≡ true) × SitesKeep program (length old.sites) (length new.sites)
 
   made_keeps : (before : List Member) (a : ActionDecl) (old new : Made) → ActionMade table program.types types members before a old new → Acted before a old new (short (length old.monitors))
   made_keeps before a old new made world known apart names n at finished =
@@ -77,15 +79,17 @@ module _ (rules : LawRules) (shapes : Rules) (program : Program) (table : Table)
         few = made.few;
         stand = made.params_so.stand;
         gives = made.result_so.stands;
-      } in (
+      } in
+      let keeps = action_keeps rules shapes program table (short (length old.monitors)) known (short (actions_before before)) made.params made.result acting
+      (body_around table made.result old)
+      (record { world = world; callbacks = refl; result = refl; stands = made.result_so.stands })
+      refl apart names a.body old.sites made.body
+      (λ i x from at. finished i x from (ap (λ (m : Made). slice_get m.sites i) made.is ∙ at))
+      (λ some. ends_by table before a old made.codes (result_there table a.result made.result made.result_so.head some)) in (
         action_of old made.params made.result found.part,
         ap (λ (m : Made). m.actions) made.is,
-        action_keeps rules shapes program table (short (length old.monitors)) known (short (actions_before before)) made.params made.result acting
-            (body_around table made.result old)
-            (record { world = world; callbacks = refl; result = refl; stands = made.result_so.stands })
-            refl apart names a.body old.sites made.body
-            (λ i x from at. finished i x from (ap (λ (m : Made). slice_get m.sites i) made.is ∙ at))
-            (λ some. ends_by table before a old made.codes (result_there table a.result made.result made.result_so.head some)),
+        keeps.action,
+        subst (λ (m : Made). SitesKeep program (length old.sites) (length m.sites)) (sym made.is) keeps.sites,
       )
 
   acted : (before : List Member) (a : ActionDecl) (old new : Made) → ActionMade table program.types types members before a old new → short (length old.monitors) ≡ monitor → Acted before a old new monitor
@@ -96,6 +100,7 @@ module _ (rules : LawRules) (shapes : Rules) (program : Program) (table : Table)
     globals = behind_last (λ x. initial_lawful x.initial ≡ true) old.globals mid.globals new.globals (record { name = g.name.text; shape = (type_found table g.shape).part; initial = made.initial }) (ap (λ (m : Made). m.globals) made.is) kept
         (initial_keeps rules table program types (length old.monitors) (type_found table g.shape).part g.initial made.initial made.initial_made) rest.globals;
     actions = λ finished. subst (λ (xs : List Action). ActionsKeep program (length xs) new.actions) (ap (λ (m : Made). m.actions) made.is) (rest.actions finished);
+    sites = λ finished. subst (λ (xs : List Site). SitesKeep program (length xs) (length new.sites)) (ap (λ (m : Made). m.sites) made.is) (rest.sites finished);
   }
 
   behind_action : (a : ActionDecl) (before rest : List Member) (old mid new : Made) → members ≡ before ++ member.Action a ∷ rest → short (length old.monitors) ≡ monitor → (action_read table members before a old).faults ≡ [] → ActionMade table program.types types members before a old mid → Extends mid.actions new.actions → Extends mid.sites new.sites → MembersKeep program mid new → MembersKeep program old new
@@ -103,17 +108,17 @@ module _ (rules : LawRules) (shapes : Rules) (program : Program) (table : Table)
       let place = head_at program table monitor known members first heads before a rest is (action_few table before a old made.codes).here in
       let names : ParamsApart (action_head (event_of table) 0 a).params known.head.globals = subst (ParamsApart (action_head (event_of table) 0 a).params) (sym globals) (action_apart table members before a old none) in
       let same : mid.globals ≡ old.globals = ap (λ (m : Made). m.globals) made.is in
+      let done : Finished program new.sites → (A : Action) × (mid.actions ≡ old.actions ++ A ∷ []) × (action_lawful program A ≡ true) × SitesKeep program (length old.sites) (length mid.sites) = (λ finished. acted before a old mid made e world known apart names place.0 place.1 (λ i x from at. finished i x (sites.at i x at))) in
       record {
         globals = subst (λ (xs : List Global). GlobalsKeep (length xs) new.globals) same behind.globals;
-        actions = λ finished.
-            let A = acted before a old mid made e world known apart names place.0 place.1 (λ i x from at. finished i x (sites.at i x at)) in
-            behind_last (λ x. action_lawful program x ≡ true) old.actions mid.actions new.actions A.0 A.1 kept A.2 (behind.actions finished);
+        actions = λ finished. behind_last (λ x. action_lawful program x ≡ true) old.actions mid.actions new.actions (done finished).0 (done finished).1 kept (done finished).2 (behind.actions finished);
+        sites = λ finished. keep_both program (length old.sites) (length mid.sites) (length new.sites) (done finished).3 (behind.sites finished);
       }
 
   -- members of the monitor, behind others
   pub members_keep : (before rest : List Member) (old : Made) → members ≡ before ++ rest → short (length old.monitors) ≡ monitor → (members_read table members before rest old).faults ≡ [] → MembersKeep program old (members_read table members before rest old).part.state
   unfolding ◌>>=◌ pure
-  members_keep before [] old is e none = record { globals = λ i x from at. past i (length old.globals) old.globals x (omega arith) from at; actions = λ finished i x from at. past i (length old.actions) old.actions x (omega arith) from at }
+  members_keep before [] old is e none = record { globals = λ i x from at. past i (length old.globals) old.globals x (omega arith) from at; actions = λ finished i x from at. past i (length old.actions) old.actions x (omega arith) from at; sites = λ finished. keep_none program (length old.sites) }
   members_keep before (member.Global g ∷ rest) old is e none =
       let mid = (global_read table before g old).part.state in
       let split = no_both (global_read table before g old).faults (members_read table members (before ++ member.Global g ∷ []) rest mid).faults none in

@@ -20,7 +20,7 @@ NodeKeeps p = (f : Frame) (around : Around) → Fitting f around → Within p.na
 
 -- a listener, by the number of its site
 abbrev pub Hears : (f : Frame) (around : Around) → Law f around.table → Named → (List Shape → List Visible) → State → List Shape → ℕ → State → Type 0
-Hears f around law named v s all n t = Read s t named (listens_at (names_of f all) f.program.sites (special_in f.program f.monitor) law.callback (v all) n) (listening f.program.sites n)
+Hears f around law named v s all n t = Read s t named (listens_at (names_of f all) f.program.sites (special_in f.program f.monitor) law.low (v all) n) (listening f.program.sites n)
 
 -- a listener, where one may stand or may not
 abbrev pub OnKeeps : OnPart → Type 0

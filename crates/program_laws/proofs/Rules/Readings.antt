@@ -55,9 +55,9 @@ module _ (rules : LawRules) (f : Frame) (around : Around) (fitting : Fitting f a
 
   -- a place that is assigned
   pub place_law : {k : ℕ} {H : List Shape → Type 0} (place : Place) → Within (place_names place) f.named → (v : List Shape → List Visible) (s : State) → ((all : List Shape) → H all → Sees f law.low (v all) s)
-      → Claims f k k H (λ all x t. Read s t (place_names place) (assigns (names_of f all) f.program.sites (special_in f.program f.monitor) law.callback (v all) x.place) (place_mentions x.place)) s (looks (λ s. place_found around.table s.scope place) s)
+      → Claims f k k H (λ all x t. Read s t (place_names place) (assigns (names_of f all) f.program.sites (special_in f.program f.monitor) law.low (v all) x.place) (place_mentions x.place)) s (looks (λ s. place_found around.table s.scope place) s)
   place_law {k} place within v s g = law_looks f (λ s. place_found around.table s.scope place) s (λ all h none before. record {
-    fine = (rules.places around.table (names_of f all) (sight_in f (v all)) s.scope place (known_table f around fitting k all s before) (known_named f around fitting k all s before (place_names place) within) (sees_named (place_names place) within (g all h)) (keeps_special f around.table law k all s before) none).assigned f.program.sites law.callback;
+    fine = (rules.places around.table (names_of f all) (sight_in f (v all)) s.scope place (known_table f around fitting k all s before) (known_named f around fitting k all s before (place_names place) within) (sees_named (place_names place) within (g all h)) (keeps_special f around.table law k all s before) none).assigned f.program.sites law.low;
     mentioned = rules.places_mention around.table s.scope place none;
     still = still_same s;
   })
@@ -73,7 +73,7 @@ module _ (rules : LawRules) (f : Frame) (around : Around) (fitting : Fitting f a
 
   -- an expression that may be there
   pub maybe_law : {k : ℕ} {H : List Shape → Type 0} (wish : Wish) (e : Option Expr) → Within (optional_names e) f.named → (v : List Shape → List Visible) (s : State) → ((all : List Shape) → H all → Sees f law.low (v all) s)
-      → Claims f k k H (λ all x t. Read s t (optional_names e) (returns (names_of f all) f.program.sites (special_in f.program f.monitor) law.callback (v all) x) (maybe_mentions x)) s (maybe_read around.table (asked wish false) e s)
+      → Claims f k k H (λ all x t. Read s t (optional_names e) (returns (names_of f all) f.program.sites (special_in f.program f.monitor) law.low (v all) x) (maybe_mentions x)) s (maybe_read around.table (asked wish false) e s)
   maybe_law wish None within v s g = law_none f s (λ all h. record { fine = refl; mentioned = record { mentioned = λ name x is at other. cc }; still = still_same s })
   maybe_law wish (Some e) within v s g = law_some f (reads around.table (asked wish false) e) s (law_as f (λ all h. h) (λ all h q. record { fine = q.fine; mentioned = q.mentioned; still = q.still }) (reads_law (asked wish false) e within v s g))
 
@@ -81,21 +81,21 @@ module _ (rules : LawRules) (f : Frame) (around : Around) (fitting : Fitting f a
 
 -- what is asked of a statement
 abbrev pub Keeps : (f : Frame) (around : Around) → Law f around.table → Named → (List Shape → List Visible) → State → List Shape → Stmt → State → Type 0
-Keeps f around law named v s all x t = Kept f law.low around.looped named (v all) s t (reading f law.callback all x) (mentions_in f x)
+Keeps f around law named v s all x t = Kept f law.low around.looped named (v all) s t (reading f law.low all x) (mentions_in f x)
 
 -- what holds of a statement's layer holds of the statement
-pub made_as : (f : Frame) (callback : ℕ → List Visible → Bool) (all : List Shape) (P : Reading → Mention → Type 0) (d : Stmt-F Stmt) (x : Stmt) → roll-Stmt d ≡ x
-    → P (stmt_reading (names_of f all) f.program.sites (special_in f.program f.monitor) callback (map-Stmt Stmt Reading (reading f callback all) d)) (stmt_step f.program.sites (map-Stmt Stmt Mention (mentions_in f) d))
-    → P (reading f callback all x) (mentions_in f x)
-made_as f callback all P d x is h =
-    let r : stmt_reading (names_of f all) f.program.sites (special_in f.program f.monitor) callback (map-Stmt Stmt Reading (reading f callback all) d) ≡ reading f callback all x
-    = sym (fold-roll-Stmt Reading (stmt_reading (names_of f all) f.program.sites (special_in f.program f.monitor) callback) d) ∙ ap (reading f callback all) is in
+pub made_as : (f : Frame) (low : ℕ) (all : List Shape) (P : Reading → Mention → Type 0) (d : Stmt-F Stmt) (x : Stmt) → roll-Stmt d ≡ x
+    → P (stmt_reading (names_of f all) f.program.sites (special_in f.program f.monitor) low (map-Stmt Stmt Reading (reading f low all) d)) (stmt_step f.program.sites (map-Stmt Stmt Mention (mentions_in f) d))
+    → P (reading f low all x) (mentions_in f x)
+made_as f low all P d x is h =
+    let r : stmt_reading (names_of f all) f.program.sites (special_in f.program f.monitor) low (map-Stmt Stmt Reading (reading f low all) d) ≡ reading f low all x
+    = sym (fold-roll-Stmt Reading (stmt_reading (names_of f all) f.program.sites (special_in f.program f.monitor) low) d) ∙ ap (reading f low all) is in
     let m : stmt_step f.program.sites (map-Stmt Stmt Mention (mentions_in f) d) ≡ mentions_in f x
     = sym (fold-roll-Stmt Mention (stmt_step f.program.sites) d) ∙ ap (mentions_in f) is in
-    subst (P (reading f callback all x)) m (subst (λ (c : Reading). P c (stmt_step f.program.sites (map-Stmt Stmt Mention (mentions_in f) d))) r h)
+    subst (P (reading f low all x)) m (subst (λ (c : Reading). P c (stmt_step f.program.sites (map-Stmt Stmt Mention (mentions_in f) d))) r h)
 
 -- a statement of this layer is kept where its layer is
 pub kept_as : (f : Frame) (around : Around) (law : Law f around.table) (named : Named) (v : List Shape → List Visible) (s t : State) (all : List Shape) (d : Stmt-F Stmt) (x : Stmt) → roll-Stmt d ≡ x
-    → Kept f law.low around.looped named (v all) s t (stmt_reading (names_of f all) f.program.sites (special_in f.program f.monitor) law.callback (map-Stmt Stmt Reading (reading f law.callback all) d)) (stmt_step f.program.sites (map-Stmt Stmt Mention (mentions_in f) d))
+    → Kept f law.low around.looped named (v all) s t (stmt_reading (names_of f all) f.program.sites (special_in f.program f.monitor) law.low (map-Stmt Stmt Reading (reading f law.low all) d)) (stmt_step f.program.sites (map-Stmt Stmt Mention (mentions_in f) d))
     → Keeps f around law named v s all x t
-kept_as f around law named v s t all d x is h = made_as f law.callback all (Kept f law.low around.looped named (v all) s t) d x is h
+kept_as f around law named v s t all d x is h = made_as f law.low all (Kept f law.low around.looped named (v all) s t) d x is h

@@ -1,9 +1,8 @@
 -- What is visible while a body is read, in its text and by number, and what a part leaves visible.
-use Rattle.std.proofs.Common.{◌≡◌, ◌+◌, ◌<◌, ◌≤◌, ◌==◌, ◌∷◌, ◌++◌}
+use Rattle.std.proofs.Common.{◌≡◌, ◌+◌, ◌≤◌, ◌==◌, ◌∷◌, ◌++◌}
 use Rattle.program_laws.proofs.Common.{ℕ, length, take, List, [], Some, Bool, true, false, refl, sym, ap, subst, ◌∙◌, slice_get, arith, append_assoc, AllByRecursion, list_any, bytes_eq-Decides, append-nil, Shape, Stmt, Reading, Mention, Visible, Sight, special_in, Scope, Seen, SeenKind, ActionHead, Table, is_callback, seen, KnowsName, KnowsTable, KnowsNamed, SeesName, SeesNamed, KeepsSpecial, Mentioned, is_barred, State, Around, left}
 use Rattle.typed_program.specs.Courses.{reading_of}
 use Rattle.typed_program.specs.Mentions.{stmt_mentions}
-use Rattle.typed_program.specs.Rules.{callback_lawful}
 use Rattle.type_table.specs.declared.scope.SeenKind.TheVariants as kind
 use Rattle.expr_rules.specs.Places.{is_global}
 use Rattle.stmt_check.specs.Bodies.{action_named as head_named, is_global as is_global_kind}
@@ -15,11 +14,9 @@ use Rattle.program_laws.proofs.Shapes.Reading.{Fitting, Within, known_at, named_
 
 -- ---- a body
 
--- what is asked of the callbacks of the sites from this number on, and of actions other than `onload` and `ondie`
+-- the number from which on the sites of a body stand, and what is asked of actions other than `onload` and `ondie`
 pub record Law (f : Frame) (table : Table) : Type 0 where
-  pub callback : ℕ → List Visible → Bool
   pub low : ℕ
-  pub accepts : (m : ℕ) (inner : List Visible) → low ≤ m → ((d : ℕ) → length f.program.sites < d + m → callback_lawful d f.program m inner ≡ true) → callback m inner ≡ true
   pub apart : (name : List ℕ) (head : ActionHead) → head_named table f.monitor name ≡ Some head → is_callback name ≡ false → list_any (λ m. m == head.number) (special_in f.program f.monitor) ≡ false
 
 -- what is visible in a body, with the actions that aren't called
@@ -27,8 +24,8 @@ abbrev pub sight_in : Frame → List Visible → Sight
 sight_in f v = record { visible = v; special = special_in f.program f.monitor }
 
 -- a statement in the finished body
-abbrev pub reading : (f : Frame) (callback : ℕ → List Visible → Bool) → List Shape → Stmt → Reading
-reading f callback all = reading_of (names_by f all) f.program.sites (special_in f.program f.monitor) callback
+abbrev pub reading : (f : Frame) → ℕ → List Shape → Stmt → Reading
+reading f low all = reading_of (names_by f all) f.program.sites (special_in f.program f.monitor) low
 
 -- what a statement mentions in the finished body
 abbrev pub mentions_in : Frame → Stmt → Mention

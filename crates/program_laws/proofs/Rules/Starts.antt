@@ -1,14 +1,16 @@
 -- Where a callback begins: the names that it takes along and those that are bound are visible by their places, and what it
 -- names it takes along.
 use Rattle.std.proofs.Common.{◌≡◌, ◌+◌, ◌≤◌, ◌==◌, ◌∷◌, ◌++◌, ◌&&◌}
-use Rattle.program_laws.proofs.Common.{ℕ, length, map, List, [], Some, Bool, true, false, not, Option, refl, ap, sym, subst, ◌∙◌, slice_get, arith, AllByRecursion, list_any, slice_get_within, not-true, and_parts, length-map, Shape, EventExpr, Local, TypedTerm, taken_from, captured_from, bound_from, Mention, Bound, Visible, visible_at, Seen, SeenKind, seen, is_known_reference, KnowsName, SeesName, Mentioned, kind_seen, is_outer, is_barred, State, Around, short, captured_in, bound_in, callback_start, known_shape, outer_kind, bound_seen, place_among}
-use Rattle.typed_program.specs.Shapes.{is_reference}
+use Rattle.program_laws.proofs.Common.{ℕ, length, map, List, [], Some, Bool, true, false, not, Option, refl, ap, sym, subst, ◌∙◌, slice_get, arith, AllByRecursion, list_any, slice_get_within, not-true, and_parts, length-map, out-Shape, Shape-F, Shape, EventExpr, Local, TypedTerm, captured_from, bound_from, kind_inside, if_known, Mention, Bound, Visible, visible_at, Seen, SeenKind, seen, is_known_reference, KnowsName, SeesName, Mentioned, bound_refers, kind_seen, is_outer, is_barred, State, Around, short, captured_in, bound_in, callback_start, known_shape, outer_kind, bound_seen, place_among}
+use Rattle.epl_values.specs.declared.shape.Shape.TheOpen as layer
+use Rattle.typed_program.specs.Courses.{may_take, takes}
+use Rattle.typed_program.specs.Shapes.{is_reference, is_reference_layer, is_event, is_event_layer}
 use Rattle.type_table.specs.declared.scope.SeenKind.TheVariants as kind
 use Rattle.expr_rules.specs.Places.{is_global}
 use Rattle.stmt_check.specs.Bodies.{is_global as is_global_kind, local_of, outer_seen}
 use Rattle.stmt_check.specs.Captures.{Names as Named}
 use Rattle.program_laws.proofs.Rules.Bindings.{bound_differ}
-use Rattle.program_laws.proofs.Rules.Captured.{taken_as, captured_below, captured_found, bound_below, bound_found, taken_kind, free_outside, number_among}
+use Rattle.program_laws.proofs.Rules.Captured.{captured_below, captured_found, bound_below, bound_found, kind_there, may_be_taken, refers_there, free_outside, number_among}
 use Rattle.program_laws.proofs.Rules.Lookups.{Differ, names_of, names_append, below_more, below_both, found_behind, seen_at}
 use Rattle.program_laws.proofs.Rules.Sights.{Sees, seen_place, global_same}
 use Rattle.program_laws.proofs.Shapes.Frames.{Frame, Before, names_of as names_by}
@@ -37,6 +39,21 @@ stays_outer kind.Bound h = refl
 reference_same : (o : Option Shape) (s : Shape) → o ≡ Some s → is_known_reference o ≡ is_reference (known_shape o)
 reference_same o s h = ap is_known_reference h ∙ ap (λ (t : Option Shape). is_reference (known_shape t)) (sym h)
 
+event_layer_refers : (d : Shape-F Shape) → is_event_layer d ≡ true → is_reference_layer d ≡ true
+event_layer_refers layer.Integer h = cc
+event_layer_refers layer.Boolean h = cc
+event_layer_refers layer.Text h = cc
+event_layer_refers (layer.Sequence item) h = refl
+event_layer_refers (layer.Dictionary key value) h = refl
+event_layer_refers (layer.Event n) h = refl
+event_layer_refers layer.Context h = cc
+event_layer_refers layer.Listener h = cc
+
+-- an event is of reference type
+event_refers : (s : Shape) → is_event s ≡ true → is_reference s ≡ true
+unfolding is_event is_reference
+event_refers s h = event_layer_refers (out-Shape s) h
+
 map_names : (g : Seen → Seen) → ((x : Seen) → (g x).name ≡ x.name) → (xs : List Seen) → names_of (map g xs) ≡ names_of xs
 map_names g same [] = refl
 map_names g same (x ∷ xs) = ap (λ (n : List ℕ). n ∷ names_of (map g xs)) (same x) ∙ ap (λ (ns : List (List ℕ)). x.name ∷ ns) (map_names g same xs)
@@ -54,7 +71,7 @@ module _ (f : Frame) (around : Around) (event : EventExpr) (names : Named) (with
 
   -- what is visible where the callback begins
   abbrev pub visible_inside : List Visible
-  visible_inside = captured_from v 0 locals ++ bound_from (length locals) term.bound
+  visible_inside = captured_from 0 locals ++ bound_from (length locals) term.bound
 
   -- they rise
   pub taken_rises : Rising 0 taken s.next
@@ -73,14 +90,15 @@ module _ (f : Frame) (around : Around) (event : EventExpr) (names : Named) (with
   moved_sees : (x : Seen) → KnowsName (names_by f all) x → SeesName v x → is_global_kind x.kind ≡ false → (j : ℕ) → slice_get taken j ≡ Some x → is_barred (moved taken x) ≡ false → SeesName visible_inside (moved taken x)
   moved_sees x knows at other j place free =
       let r : Bool = is_reference (known_shape x.shape) in
+      let same : is_known_reference x.shape ≡ r = reference_same x.shape knows.shape knows.known in
       let other_so : is_global x.kind ≡ false = global_same x.kind ∙ other in
-      let free_so : (is_outer (outer_kind x.kind) && r) ≡ false = ap (λ (b : Bool). is_outer (outer_kind x.kind) && b) (sym (reference_same x.shape knows.shape knows.known)) ∙ free in
-      let y : Visible = record { number = 0 + j; kind = kind_seen (outer_kind x.kind) } in
-      let single : taken_from (local_of x) (0 + j) (visible_at v x.number) ≡ y ∷ [] = ap (taken_from (local_of x) (0 + j)) at.is_at ∙ ap (λ c. taken_as c r (0 + j)) at.kind ∙ taken_kind x.kind r (0 + j) other_so free_so in
+      let free_so : (is_outer (outer_kind x.kind) && r) ≡ false = ap (λ (b : Bool). is_outer (outer_kind x.kind) && b) (sym same) ∙ free in
+      let refers_so : bound_refers x.kind r ≡ true = ap (bound_refers x.kind) (sym same) ∙ at.refers in
       record {
-        at = y;
-        is_at = ap (visible_at visible_inside) (taken_place j x place) ∙ captured_found v 0 locals (bound_from (length locals) term.bound) j (local_of x) y (get_map local_of taken j x place) single refl;
-        kind = refl;
+        at = record { number = 0 + j; kind = kind_inside (known_shape x.shape) };
+        is_at = ap (visible_at visible_inside) (taken_place j x place) ∙ captured_found 0 locals (bound_from (length locals) term.bound) j (local_of x) (get_map local_of taken j x place);
+        kind = kind_there x.kind r other_so refers_so free_so;
+        refers = refers_there x.kind (is_known_reference x.shape) at.refers;
       }
 
   -- what is asked of a name where the callback begins
@@ -118,9 +136,10 @@ module _ (f : Frame) (around : Around) (event : EventExpr) (names : Named) (with
       record {
         at = record { number = length locals + i; kind = Bound };
         is_at = ap (visible_at visible_inside) number
-            ∙ found_behind (length locals + i) (captured_from v 0 locals) (bound_from (length locals) term.bound) (below_more (0 + length locals) (length locals + i) (captured_from v 0 locals) (omega arith) (captured_below v 0 locals))
+            ∙ found_behind (length locals + i) (captured_from 0 locals) (bound_from (length locals) term.bound) (below_more (0 + length locals) (length locals + i) (captured_from 0 locals) (omega arith) (captured_below 0 locals))
             ∙ bound_found (length locals) term.bound i (omega (arith, long));
         kind = ap kind_seen (sym is.kind);
+        refers = ap (λ (k : SeenKind). bound_refers k (is_known_reference b.shape)) is.kind ∙ reference_same b.shape (known_shape b.shape) is.known ∙ event_refers (known_shape b.shape) is.event;
       }
 
   start_differ : Differ (names_of (map (outer_seen taken) s.scope.names ++ map (bound_seen taken) bounds))
@@ -141,8 +160,8 @@ module _ (f : Frame) (around : Around) (event : EventExpr) (names : Named) (with
         let many = answers.few in
         let long = long_bound in
         let same = long_locals in
-        below_both (short (length taken + length bounds)) (captured_from v 0 locals) (bound_from (length locals) term.bound)
-        (below_more (0 + length locals) (short (length taken + length bounds)) (captured_from v 0 locals) (omega (arith, same)) (captured_below v 0 locals))
+        below_both (short (length taken + length bounds)) (captured_from 0 locals) (bound_from (length locals) term.bound)
+        (below_more (0 + length locals) (short (length taken + length bounds)) (captured_from 0 locals) (omega (arith, same)) (captured_below 0 locals))
         (below_more (length locals + length term.bound) (short (length taken + length bounds)) (bound_from (length locals) term.bound) (omega (arith, same, long)) (bound_below (length locals) term.bound));
     differ = start_differ;
     from = le;
@@ -150,20 +169,21 @@ module _ (f : Frame) (around : Around) (event : EventExpr) (names : Named) (with
 
   -- ---- what the callback names
 
-  -- a name that is taken along is mentioned at its place, and visible around the callback
+  -- a name that is taken along is mentioned at its place, and may be taken along
   pub record TakenSo (m : Mention) (j : ℕ) (x : Seen) : Type 0 where
     pub mentioned : m (0 + j) ≡ true
     pub free : is_barred x ≡ false
-    pub seen_so : SeesName v x
+    pub taken : takes v (local_of x) ≡ true
 
   -- what a name that is taken along is in the body around
   record Standing (x : Seen) : Type 0 where
     place : ℕ
     at : slice_get s.scope.names place ≡ Some x
+    knows : f.named x.name ≡ true → KnowsName (names_by f all) x
     sees_so : f.named x.name ≡ true → is_global x.kind ≡ false → is_barred x ≡ false → SeesName v x
 
   taken_around : AllByRecursion (λ x. Standing x × (counts names x ≡ true)) taken
-  taken_around = all_filter Standing (counts names) s.scope.names (all_by_place s.scope.names (λ i x at. record { place = i; at = at; sees_so = all_at (λ y. f.named y.name ≡ true → is_global y.kind ≡ false → is_barred y ≡ false → SeesName v y) s.scope.names i x sees.seen at }))
+  taken_around = all_filter Standing (counts names) s.scope.names (all_by_place s.scope.names (λ i x at. record { place = i; at = at; knows = all_at (λ y. f.named y.name ≡ true → KnowsName (names_by f all) y) s.scope.names i x before.seen at; sees_so = all_at (λ y. f.named y.name ≡ true → is_global y.kind ≡ false → is_barred y ≡ false → SeesName v y) s.scope.names i x sees.seen at }))
 
   named_by : (m : Mention) → Mentioned (callback_start taken bounds s).scope names m → (j : ℕ) (x : Seen) → slice_get taken j ≡ Some x → Standing x → counts names x ≡ true → TakenSo m j x
   named_by m inside j x at a counted =
@@ -173,14 +193,22 @@ module _ (f : Frame) (around : Around) (event : EventExpr) (names : Named) (with
       let there : slice_get (map (outer_seen taken) s.scope.names ++ map (bound_seen taken) bounds) a.place ≡ Some (outer_seen taken x) = get_front (map (outer_seen taken) s.scope.names) (map (bound_seen taken) bounds) a.place (outer_seen taken x) (get_map (outer_seen taken) s.scope.names a.place x a.at) in
       let found : seen (callback_start taken bounds s).scope (outer_seen taken x).name ≡ Some (outer_seen taken x) = seen_at (callback_start taken bounds s).scope a.place (outer_seen taken x) start_differ there in
       let told = inside.mentioned (outer_seen taken x).name (outer_seen taken x) (ap names (outer_name taken x) ∙ p.1) found (ap (λ (y : Seen). is_global y.kind) is ∙ stays_outer x.kind other) in
-      let free : is_barred x ≡ false = free_outside x.kind (is_known_reference x.shape) (ap is_barred (sym is) ∙ told.1) in
+      let inside_free : (is_outer (outer_kind x.kind) && is_known_reference x.shape) ≡ false = ap is_barred (sym is) ∙ told.1 in
+      let free : is_barred x ≡ false = free_outside x.kind (is_known_reference x.shape) inside_free in
+      let seen_so : SeesName v x = a.sees_so (within x.name p.1) (global_same x.kind ∙ other) free in
+      let knows = a.knows (within x.name p.1) in
+      let r : Bool = is_reference (known_shape x.shape) in
+      let same : is_known_reference x.shape ≡ r = reference_same x.shape knows.shape knows.known in
       record {
         mentioned = ap m (sym (ap (λ (y : Seen). y.number) is ∙ taken_place j x at)) ∙ told.0;
         free = free;
-        seen_so = a.sees_so (within x.name p.1) (global_same x.kind ∙ other) free;
+        taken =
+            ap (if_known (λ w. may_take r w.kind)) seen_so.is_at
+            ∙ ap (may_take r) seen_so.kind
+            ∙ may_be_taken x.kind r (global_same x.kind ∙ other) (ap (bound_refers x.kind) (sym same) ∙ seen_so.refers) (ap (λ (b : Bool). is_outer (outer_kind x.kind) && b) (sym same) ∙ inside_free);
       }
 
-  -- each is mentioned in the callback, and visible around it
+  -- each is mentioned in the callback, and may be taken along
   pub taken_named : (m : Mention) → Mentioned (callback_start taken bounds s).scope names m → (j : ℕ) (x : Seen) → slice_get taken j ≡ Some x → TakenSo m j x
   taken_named m inside j x at = let p = all_at (λ x. Standing x × (counts names x ≡ true)) taken j x taken_around at in named_by m inside j x at p.0 p.1
 

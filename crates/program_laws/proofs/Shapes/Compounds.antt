@@ -30,7 +30,8 @@ use Rattle.program_laws.proofs.Shapes.Types.{stands_sequence}
 
 -- ---- what a loop goes over
 
-holds_stand : (names : Names) (e : TypedExpr) → holds names e ≡ true → may_stand names.types (shape_of e) ≡ true
+-- the shape of an expression that holds is there
+pub holds_stand : (names : Names) (e : TypedExpr) → holds names e ≡ true → may_stand names.types (shape_of e) ≡ true
 holds_stand names e h = (and_parts (may_stand names.types (shape_of e)) _ (sym (ap (λ (c : Checked). c.holds) (fold_out-TypedExpr Node Step Paired Checked Linked Stepping (node_so names) (step_so names.types) entry_so (expr_so names) link_so suffix_so e)) ∙ h)).0
 
 -- the elements of a sequence

@@ -3,6 +3,7 @@ use Rattle.std.proofs.Common.{◌≡◌, ◌≤◌, ◌&&◌, ◌∷◌}
 use Rattle.program_laws.proofs.Common.{ℕ, suc, Bool, true, List, [], map, length, drop, Option, Some, None, is_some, refl, sym, ap, ap₂, subst, ◌∙◌, AllByRecursion, list_all, find, bytes_eq, drop-append_seam, lt-ltb, bytes_eq-Decides, Shape, EventExpr, TypedExpr, Local, stands, Names, holds, shape_of, if_known, Scope, Seen, Table, local_of, local_shape, term_found, KnowsTable, KnowsName, bound_in, known_shape, event_names}
 use Rattle.std.specs.Prelude.{cond, false}
 use Rattle.epl_values.specs.declared.shape.Shape.TheVariants as shape
+use Rattle.typed_program.specs.Shapes.{is_event, is_event_layer}
 use Rattle.program_laws.specs.Known as known
 use Rattle.stmt_check.specs.Captures.{Names as Named}
 use Rattle.program_laws.proofs.Exprs.Standing.{event_stands}
@@ -53,6 +54,10 @@ shapes_same : (xs : List Seen) → map (λ (b : Local). b.shape) (map local_of x
 shapes_same [] = refl
 shapes_same (x ∷ xs) = ap₂ (λ (s : Shape) (ss : List Shape). s ∷ ss) (shape_same x.shape) (shapes_same xs)
 
+is_one : (n : ℕ) → is_event (shape.Event n) ≡ true
+unfolding is_event
+is_one n = ap is_event_layer (shape.outs-Event n)
+
 is_bound : (names : Names) (n : ℕ) (b : Seen) → BoundAt names n b → IsBound names.types n b
 is_bound names n b at =
     let shaped : known_shape b.shape ≡ shape.Event at.event = ap known_shape at.shaped in
@@ -61,6 +66,7 @@ is_bound names n b at =
       number = at.numbered;
       known = at.shaped ∙ ap (λ (s : Shape). Some s) (sym shaped);
       stands = ap (stands names.types) shaped ∙ event_stands names.types at.event (lt-ltb at.event (length names.types) at.there);
+      event = ap is_event shaped ∙ is_one at.event;
     }
 
 are_bound : (names : Names) (n : ℕ) (bs : List Seen) → Numbered names n bs → AreBound names.types n bs

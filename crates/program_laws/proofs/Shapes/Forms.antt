@@ -32,10 +32,10 @@ within_second a b w name is = w name (or_right (a name) (b name) is)
 -- ---- a local of a known shape
 
 pub of_local : OfLocals kind.Local
-of_local = record { at = λ names n. refl }
+of_local = record { at = λ names n. refl; own = λ r. refl }
 
 pub of_loop : OfLocals kind.Loop
-of_loop = record { at = λ names n. refl }
+of_loop = record { at = λ names n. refl; own = λ r. refl }
 
 -- a number at which a shape stands
 pub is_at : (b : Body) (s : Shape) (n : ℕ) → slice_get b.names.locals n ≡ Some s → is_local b s n ≡ true

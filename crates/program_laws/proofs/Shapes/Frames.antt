@@ -93,10 +93,12 @@ pub sites_none : (program : Program) (a : ℕ) → SitesHold program a a
 sites_none program a i x from to e = absurd (omega arith)
 
 module _ (f : Frame) where
-  fits_first : {locals : List Shape} {s t u : State} → Extends t.locals u.locals → Extends t.sites u.sites → Fits f locals s u → Fits f locals s t
+  -- the lists have what a first part makes
+  pub fits_first : {locals : List Shape} {s t u : State} → Extends t.locals u.locals → Extends t.sites u.sites → Fits f locals s u → Fits f locals s t
   fits_first h k fits = record { locals = λ i x e. fits.locals i x (h.at i x e); sites = λ i x from e. fits.sites i x from (k.at i x e) }
 
-  fits_second : {locals : List Shape} {s t u : State} → length s.sites ≤ length t.sites → Fits f locals s u → Fits f locals t u
+  -- and what a second one makes
+  pub fits_second : {locals : List Shape} {s t u : State} → length s.sites ≤ length t.sites → Fits f locals s u → Fits f locals t u
   fits_second {s = s} {t = t} le fits = record { locals = fits.locals; sites = λ i x from e. fits.sites i x (omega arith) e }
 
   -- a part, and what is read behind it

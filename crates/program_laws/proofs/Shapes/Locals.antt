@@ -1,5 +1,5 @@
 -- Names that are declared, the locals that they stand for, and what is visible behind a block.
-use Rattle.program_laws.proofs.Common.{ℕ, suc, length, List, [], Some, None, true, not, Option, refl, sym, ap, subst, ◌∙◌, arith, slice_get, nat_le, is_some, AllByRecursion, filter-append, leb-false, Shape, EventShape, Name, Names, stands, Seen, SeenKind, told, seen_of, KnowsName, by_number, State, when, short, known_shape, local_codes, local_read, seen_local, with_local, scoped, captured_in, left, Reads}
+use Rattle.program_laws.proofs.Common.{ℕ, suc, length, List, [], Some, None, true, not, Option, refl, sym, ap, subst, ◌∙◌, arith, slice_get, nat_le, is_some, AllByRecursion, filter-append, leb-false, Shape, EventShape, Name, Names, stands, Seen, SeenKind, told, seen_of, KnowsName, by_number, bound_refers, Bool, State, when, short, known_shape, local_codes, local_read, seen_local, with_local, scoped, captured_in, left, Reads}
 use Rattle.std.proofs.Common.{◌≡◌, ◌+◌, ◌<◌, ◌≤◌, ◌∷◌, ◌++◌, ◌&&◌, length-append}
 use Rattle.std.specs.Prelude.{IfSome}
 use Rattle.stmt_check.specs.Bodies.{counted, name_read, is_global}
@@ -48,9 +48,10 @@ pub record Sound (types : List EventShape) (shape : Option Shape) : Type 0 where
   pub known : shape ≡ Some (known_shape shape)
   pub stands : stands types (known_shape shape) ≡ true
 
--- a kind of name that stands for a local
+-- a kind of name that stands for a local, and is no co-assignment
 pub record OfLocals (kind : SeenKind) : Type 0 where
   pub at : (names : Names) (n : ℕ) → by_number names kind n ≡ slice_get names.locals n
+  pub own : (reference : Bool) → bound_refers kind reference ≡ true
 
 short_more : (n : ℕ) → n ≤ 65400 → short (n + 1) ≡ n + 1
 short_more n h = omega arith

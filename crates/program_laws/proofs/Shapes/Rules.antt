@@ -1,6 +1,7 @@
 -- What expressions, places, arguments and event expressions answer where no fault is found in them.
 use Rattle.std.proofs.Common.{◌≡◌, ◌≤◌, ◌∷◌, ◌&&◌}
 use Rattle.program_laws.proofs.Common.{ℕ, suc, length, map, List, [], Some, Bool, true, false, list_all, EventShape, Shape, EventExpr, Expr, Place, TypedExpr, TypedTerm, Names, if_known, holds, have, shape_of, walks, stepping, stands, variable_shape, fits_term, Scope, Seen, ParamHead, Table, Demand, typed_arguments, param_wants, Target, place_found, expr_found, answers, wish_stands, term_found, bound_in, known_shape, expr_names, place_names, event_names, exprs_name}
+use Rattle.typed_program.specs.Shapes.{is_event}
 use Rattle.typed_program.specs.Terms.{Around}
 use Rattle.type_table.specs.declared.scope.SeenKind.TheVariants as kind
 use Rattle.expr_check.specs.Expressions.{part_of as expr_part}
@@ -18,6 +19,7 @@ pub record IsBound (types : List EventShape) (n : ℕ) (b : Seen) : Type 0 where
   pub number : b.number ≡ n
   pub known : b.shape ≡ Some (known_shape b.shape)
   pub stands : stands types (known_shape b.shape) ≡ true
+  pub event : is_event (known_shape b.shape) ≡ true
 
 -- bound names whose numbers begin with this one
 abbrev pub AreBound : List EventShape → ℕ → List Seen → Type 0

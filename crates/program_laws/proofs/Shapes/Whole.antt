@@ -18,8 +18,13 @@ pub kind_names : (number_of : EventDecl → EventShape) (kinds : List EventDecl)
 kind_names f [] same = refl
 kind_names f (e ∷ kinds) same = ap (λ (n : List ℕ). n ∷ map (λ (t : EventShape). t.name) (map f kinds)) (same e) ∙ ap (λ (ns : List (List ℕ)). e.name.text ∷ ns) (kind_names f kinds same)
 
+-- a program that has its shapes, and each of its sites
+pub record ProgramHolds (program : Program) : Type 0 where
+  pub shapes : HasShapes program
+  pub sites : (n : ℕ) (site : Site) → slice_get program.sites n ≡ Some site → site_so program site ≡ true
+
 -- where expressions and event expressions without faults have their shapes, those of callbacks too
-pub shapes_by_rules : Rules → (units : List File) (program : Program) → IsProgram units program → HasShapes program
+pub shapes_by_rules : Rules → (units : List File) (program : Program) → IsProgram units program → ProgramHolds program
 shapes_by_rules rules units program is =
     let kinds : KindsHold program = kinds_hold units program (ap (λ (p : Program). p.types) is.program_is ∙ is.is_table.types) is.declared in
     let types : is.table.types ≡ program.types = sym (ap (λ (p : Program). p.types) is.program_is) in
@@ -30,11 +35,13 @@ shapes_by_rules rules units program is =
     let all : AllHolds program (nothing_made is.table) (made_of is.table units) = files_hold rules program is.table types kinds.few kinds.known (kinds_of units) (same_numbers is.table (kinds_of units) names) units is.declared is.faultless is.is_table.monitors monitors actions sites in
     let finished : (i : ℕ) (x : Site) → slice_get (made_of is.table units).sites i ≡ Some x → slice_get program.sites i ≡ Some x = (λ i x at. ap (λ (xs : List Site). slice_get xs i) sites ∙ at) in
     record {
-      types = kinds.types;
-      monitors = monitors_from program 0 program.monitors (λ k x at. let z : k ≡ 0 + k = omega arith in subst (λ (j : ℕ). monitor_so program j x ≡ true) z (all.monitors k x (omega arith) (ap (λ (xs : List Monitor). slice_get xs k) (sym monitors) ∙ at)));
-      actions = every_true (action_so program) program.actions (all_by_place program.actions (λ i x at. all.actions finished i x (omega arith) (ap (λ xs. slice_get xs i) (sym actions) ∙ at)));
-      sites = every_true (site_so program) program.sites (all_by_place program.sites (λ i x at.
+      shapes = record {
+        types = kinds.types;
+        monitors = monitors_from program 0 program.monitors (λ k x at. let z : k ≡ 0 + k = omega arith in subst (λ (j : ℕ). monitor_so program j x ≡ true) z (all.monitors k x (omega arith) (ap (λ (xs : List Monitor). slice_get xs k) (sym monitors) ∙ at)));
+        actions = every_true (action_so program) program.actions (all_by_place program.actions (λ i x at. all.actions finished i x (omega arith) (ap (λ xs. slice_get xs i) (sym actions) ∙ at)));
+      };
+      sites = λ i x at.
           let lt = slice_get_within program.sites i x at in
           let e = ap length sites in
-          all.sites_hold finished i x (omega arith) (omega (arith, e)) at));
+          all.sites_hold finished i x (omega arith) (omega (arith, e)) at;
     }
