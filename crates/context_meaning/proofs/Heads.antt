@@ -139,7 +139,7 @@ module _ (program : Program) (typed : Typed program) where
 
   -- a site that is there is as it should be
   site_there : (n : ℕ) (site : Site) → slice_get program.sites n ≡ Some site → site_so program site ≡ true
-  site_there n site h = at_place (site_so program) program.sites n site typed.shapes.sites h
+  site_there n site h = (typed.sites n site h).shapes
 
   -- what stands of a site that is as it should be
   site_parts : (site : Site) → site_so program site ≡ true → (fits_term (site_around program site) site.term ≡ true) × (list_all (stands program.types) (map (λ (b : Local). b.shape) site.bound) ≡ true)

@@ -4,7 +4,7 @@ use Rattle.typed_runs.proofs.Common.{ℕ, zero, suc, Bool, true, false, not, inl
 use Rattle.typed_program.specs.Terms.{fits_term}
 use Rattle.typed_program.specs.Programs.{action_names, action_body, callback_body, all_stand, is_there, action_so, site_so, site_around}
 use Rattle.typed_program.specs.Courses.{runs as lawful_runs}
-use Rattle.typed_program.specs.Rules.{action_lawful, special_in, callback_lawful, params_from}
+use Rattle.typed_program.specs.Rules.{action_lawful, special_in, params_from}
 use Rattle.action_host.specs.declared.host.Fault.TheVariants as fault
 use Rattle.body_meaning.specs.Acts.{returned, or_none, with_locals, in_locals, defaults_of, runs, enter}
 use Rattle.value_shapes.proofs.Defaults.{defaults_fit}
@@ -64,7 +64,7 @@ module _ (program : Program) (typed : Typed program) where
 
   -- a site that is there is as it should be
   site_known : (n : ℕ) (site : Site) → slice_get program.sites n ≡ Some site → site_so program site ≡ true
-  site_known n site is = all_at (site_so program) program.sites n site typed.shapes.sites is
+  site_known n site is = (typed.sites n site is).shapes
 
   -- a body names what is there
   seen : (monitor : ℕ) (room : List Shape) (call : Calls) → CallsKeep program call → Seen program monitor room (globals_in program monitor) room program.actions call
@@ -89,10 +89,10 @@ module _ (program : Program) (typed : Typed program) where
   -- an action returns where it has a result
   action_answers : (n : ℕ) (action : Action) (call : Calls) → slice_get program.actions n ≡ Some action → Gives (Answers action.result) (body_of program.types program.sites call action.body)
   action_answers n action call is =
-      let lawful = lawful_runs (action_names program action) program.sites (special_in program action.monitor) (callback_lawful (suc (length program.sites)) program) action.body (params_from 0 action.params) in
+      let lawful = lawful_runs (action_names program action) program.sites (special_in program action.monitor) 0 action.body (params_from 0 action.params) in
       let rules = action_rules n action is in
       may_answer action (body_of program.types program.sites call action.body)
-      (λ ends. body_returns (action_names program action) program.sites (special_in program action.monitor) (callback_lawful (suc (length program.sites)) program) program.types program.sites call action.body (params_from 0 action.params) (left lawful (not (is_some action.result) || ends_with_return action.body) rules) ends)
+      (λ ends. body_returns (action_names program action) program.sites (special_in program action.monitor) 0 program.types program.sites call action.body (params_from 0 action.params) (left lawful (not (is_some action.result) || ends_with_return action.body) rules) ends)
       (or_cases (not (is_some action.result)) (ends_with_return action.body) (right lawful (not (is_some action.result) || ends_with_return action.body) rules))
       (gives_any _)
 

@@ -8,10 +8,10 @@ use Rattle.body_meaning.specs.Statements.{stmt_of}
 use Rattle.typed_runs.proofs.Sound.{left, right}
 use Rattle.typed_runs.proofs.Flowing.{Gives, Stays, IsEnd, IsReturn, Flows, gives_pure, gives_halt, gives_bind, gives_after, gives_seq, gives_choose, gives_as, gives_both, follow_so, follow_ends, stop_ends, returns_so, while_stays, for_stays, assign_stays}
 
-module _ (names : Names) (read : List Site) (special : List ℕ) (callback : ℕ → List Visible → Bool) (types : List EventShape) (sites : List Site) (call : Calls) where
+module _ (names : Names) (read : List Site) (special : List ℕ) (from : ℕ) (types : List EventShape) (sites : List Site) (call : Calls) where
   -- how a statement is read
   abbrev reading : Stmt → Reading
-  reading = reading_of names read special callback
+  reading = reading_of names read special from
 
   -- how it ends
   abbrev ending : Stmt → Ending
@@ -68,7 +68,7 @@ module _ (names : Names) (read : List Site) (special : List ℕ) (callback : ℕ
   meant_parts x = map-Stmt Stmt (M Flow) meant x
 
   -- a statement whose parts are as claimed
-  stmt_at : (y : Stmt-F Held) → Flows (stmt_reading names read special callback (read_parts (trees y))) (ending_step (end_parts (trees y))) (stmt_meant types sites call (meant_parts (trees y)))
+  stmt_at : (y : Stmt-F Held) → Flows (stmt_reading names read special from (read_parts (trees y))) (ending_step (end_parts (trees y))) (stmt_meant types sites call (meant_parts (trees y)))
   stmt_at (stmt.Block parts) = record { stays = λ visible looped h. row_stays parts visible looped h; ends_last = λ h. cc; ends_part = λ h. row_ends parts h }
   stmt_at (stmt.On site) = goes_on _ _ (λ looped. gives_seq _ (gives_seq _ (gives_pure Next tt)))
   stmt_at (stmt.Declare n s) = goes_on _ _ (λ looped. gives_seq _ (gives_seq _ (gives_pure Next tt)))
@@ -77,7 +77,7 @@ module _ (names : Names) (read : List Site) (special : List ℕ) (callback : ℕ
   stmt_at (stmt.Assign place e) = goes_on _ _ (λ looped. gives_seq _ (assign_stays looped place _ _))
   stmt_at (stmt.AssignOn place site) = goes_on _ _ (λ looped. gives_seq _ (assign_stays looped place _ _))
   stmt_at (stmt.If test part None) = record {
-    stays = λ visible looped h. gives_seq _ (gives_after _ _ (λ v. gives_choose (truth_of v) (part.1.stays visible looped (right (is_plain names read special callback visible test) (reading part.0 visible looped).lawful (left (is_plain names read special callback visible test && (reading part.0 visible looped).lawful) true h))) (gives_pure Next tt)));
+    stays = λ visible looped h. gives_seq _ (gives_after _ _ (λ v. gives_choose (truth_of v) (part.1.stays visible looped (right (is_plain names read special from visible test) (reading part.0 visible looped).lawful (left (is_plain names read special from visible test && (reading part.0 visible looped).lawful) true h))) (gives_pure Next tt)));
     ends_last = λ h. cc;
     ends_part = λ h. cc;
   }
@@ -85,8 +85,8 @@ module _ (names : Names) (read : List Site) (special : List ℕ) (callback : ℕ
       let ends : ((ending part.0).part && (ending other.0).part) ≡ true → Gives IsEnd (stmt_meant types sites call (stmt.If test (meant part.0) (Some (meant other.0)))) = λ h. gives_seq _ (gives_after _ _ (λ v. gives_choose (truth_of v) (part.1.ends_part (left (ending part.0).part (ending other.0).part h)) (other.1.ends_part (right (ending part.0).part (ending other.0).part h)))) in
       record {
         stays = λ visible looped h.
-            let front = left (is_plain names read special callback visible test && (reading part.0 visible looped).lawful) (reading other.0 visible looped).lawful h in
-            gives_seq _ (gives_after _ _ (λ v. gives_choose (truth_of v) (part.1.stays visible looped (right (is_plain names read special callback visible test) (reading part.0 visible looped).lawful front)) (other.1.stays visible looped (right (is_plain names read special callback visible test && (reading part.0 visible looped).lawful) (reading other.0 visible looped).lawful h))));
+            let front = left (is_plain names read special from visible test && (reading part.0 visible looped).lawful) (reading other.0 visible looped).lawful h in
+            gives_seq _ (gives_after _ _ (λ v. gives_choose (truth_of v) (part.1.stays visible looped (right (is_plain names read special from visible test) (reading part.0 visible looped).lawful front)) (other.1.stays visible looped (right (is_plain names read special from visible test && (reading part.0 visible looped).lawful) (reading other.0 visible looped).lawful h))));
         ends_last = ends;
         ends_part = ends;
       }
@@ -110,8 +110,8 @@ module _ (names : Names) (read : List Site) (special : List ℕ) (callback : ℕ
   unfolding stmt_of
   stmt_case x y is = subst (λ (z : Stmt-F Stmt). ForStmt (roll-Stmt z)) is
       (subst (λ (m : M Flow). Flows (reading (roll-Stmt (trees y))) (ending (roll-Stmt (trees y))) m) (sym (fold-roll-Stmt (M Flow) (stmt_meant types sites call) (trees y)))
-      (subst (λ (r : Reading). Flows r (ending (roll-Stmt (trees y))) (stmt_meant types sites call (meant_parts (trees y)))) (sym (fold-roll-Stmt Reading (stmt_reading names read special callback) (trees y)))
-      (subst (λ (e : Ending). Flows (stmt_reading names read special callback (read_parts (trees y))) e (stmt_meant types sites call (meant_parts (trees y)))) (sym (fold-roll-Stmt Ending ending_step (trees y))) (stmt_at y))))
+      (subst (λ (r : Reading). Flows r (ending (roll-Stmt (trees y))) (stmt_meant types sites call (meant_parts (trees y)))) (sym (fold-roll-Stmt Reading (stmt_reading names read special from) (trees y)))
+      (subst (λ (e : Ending). Flows (stmt_reading names read special from (read_parts (trees y))) e (stmt_meant types sites call (meant_parts (trees y)))) (sym (fold-roll-Stmt Ending ending_step (trees y))) (stmt_at y))))
 
   -- each statement is as claimed
   stmt_flows : (s : Stmt) → ForStmt s
@@ -128,7 +128,7 @@ module _ (names : Names) (read : List Site) (special : List ℕ) (callback : ℕ
   same_rows (s ∷ body) = ap (λ rest. s ∷ rest) (same_rows body)
 
   -- a body that is lawful and ends with a `return` returns
-  pub body_returns : (body : List Stmt) (visible : List Visible) → runs names read special callback body visible ≡ true → ends_with_return body ≡ true → Gives IsReturn (body_of types sites call body)
+  pub body_returns : (body : List Stmt) (visible : List Visible) → runs names read special from body visible ≡ true → ends_with_return body ≡ true → Gives IsReturn (body_of types sites call body)
   body_returns body visible lawful ends =
       let parts = map held body in
       let so : (row_of (map reading (map (λ (e : Held). e.0) parts)) visible false).lawful ≡ true = ap (λ (b : List Stmt). (row_of (map reading b) visible false).lawful) (same_rows body) ∙ lawful in
