@@ -7,6 +7,8 @@ use Rattle.epl_tree.specs.declared.event.DurationNode.{DurationNode}
 use Rattle.epl_tree.specs.declared.event.DurationNode.TheVariants as node
 use Rattle.typed_program.specs.declared.expression.TypedExpr.{TypedExpr, roll-TypedExpr}
 use Rattle.typed_program.specs.declared.expression.TypedNode.TheVariants as made
+use Rattle.typed_program.specs.declared.term.Duration.{Duration as Timed}
+use Rattle.typed_program.specs.Terms.{is_tenths}
 use Rattle.type_table.specs.declared.scope.Scope.{Scope}
 use Rattle.type_table.specs.declared.table.Table.{Table}
 use Rattle.span_text.specs.declared.spot.Spot.{Spot}
@@ -15,7 +17,7 @@ use Rattle.listener_check.specs.declared.sofar.Sofar.{Sofar}
 use Rattle.listener_check.specs.Limits.{sum_read}
 use Rattle.listener_check.specs.Operands.{placed}
 use Rattle.listener_check.specs.Values.{duration_naming, named_value}
-use Rattle.listener_check.specs.Went.{Went, given, ◌>>=◌}
+use Rattle.listener_check.specs.Went.{Went, given, went, ◌>>=◌}
 
 -- the number that digits write behind those of another
 abbrev pub number_after : ℕ → List ℕ → ℕ
@@ -54,11 +56,15 @@ decimal_by spot text None = digits_found spot text []
 abbrev pub decimal_found : Spot → List ℕ → Found TypedExpr
 decimal_found spot text = decimal_by spot text (point_in text)
 
+-- its operand among those of the site, and whether that is a literal of tenths
+unfoldable pub timed : TypedExpr → Sofar → Went Timed
+timed typed s = placed typed s >>= λ at s. went (record { operand = at; tenths = is_tenths typed }) s
+
 module _ (table : Table) (scope : Scope) (inner : Scope) where
   unfoldable pub length_found : Spot → DurationNode → Found TypedExpr
   length_found spot (node.Decimal text) = decimal_found spot text
   length_found spot (node.Seconds e) = named_value table inner (duration_naming scope inner e) shape.Integer e
 
-  -- a duration, by its place among the operands of the site
-  unfoldable pub duration_read : Duration → Sofar → Went ℕ
-  duration_read d s = sum_read d.spot s >>= λ _ s. given (length_found d.spot d.node) s >>= λ typed s. placed typed s
+  -- a duration, with its place among the operands of the site
+  unfoldable pub duration_read : Duration → Sofar → Went Timed
+  duration_read d s = sum_read d.spot s >>= λ _ s. given (length_found d.spot d.node) s >>= λ typed s. timed typed s

@@ -49,7 +49,7 @@ no_clauses = record { binds = None; within = None }
 module _ (table : Table) (scope : Scope) (inner : Scope) where
   unfoldable pub clause_read : Bool → Clauses → TemplateClause → Sofar → Went Clauses
   clause_read under_not made (clause.As name) s = name_read scope under_not made.binds name s >>= λ place s. went (record made { binds = Some place }) s
-  clause_read under_not made (clause.Within duration) s = duration_read table scope inner duration s >>= λ at s. went (record made { within = Some at }) s
+  clause_read under_not made (clause.Within duration) s = duration_read table scope inner duration s >>= λ timed s. went (record made { within = Some timed }) s
 
   abbrev pub clauses_read : Bool → List TemplateClause → Sofar → Went Clauses
   clauses_read under_not cs s = through (clause_read under_not) no_clauses cs s

@@ -104,11 +104,11 @@ negated spot x = record { is_not = true; reading = λ may under left s. not_read
 
 module _ (table : Table) (scope : Scope) (inner : Scope) where
   unfoldable pub wait_read : Spot → Duration → Sofar → Went Term
-  wait_read spot d s = leaf_read spot s >>= λ _ s. duration_read table scope inner d s >>= λ at s. went (term.Wait at) s
+  wait_read spot d s = leaf_read spot s >>= λ _ s. duration_read table scope inner d s >>= λ timed s. went (term.Wait timed) s
 
   unfoldable pub ended_read : Term → Option Duration → Sofar → Went Term
   ended_read t None s = went (term.Group t None) s
-  ended_read t (Some d) s = duration_read table scope inner d s >>= λ at s. went (term.Group t (Some at)) s
+  ended_read t (Some d) s = duration_read table scope inner d s >>= λ timed s. went (term.Group t (Some timed)) s
 
   unfoldable pub group_read : Spot → Part → Option Duration → Reading
   group_read spot x within under left s = deadline_read spot within s >>= λ _ s. x.reading false under left s >>= λ t s. ended_read t within s

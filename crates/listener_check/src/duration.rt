@@ -1,7 +1,8 @@
 ghost use Rattle.std.specs.Prelude.{◌≡◌, ◌≤◌, ◌<◌, ◌-◌, ◌^◌, length, not, drop, IfSome};
 ghost use Rattle.std.specs.List.{list_any};
 ghost use Rattle.type_table.specs.Found.{Finds};
-ghost use Rattle.listener_check.specs.Durations.{number_after, point_in, first_digit, is_zero, digits_found, decimal_found, length_found, duration_read};
+ghost use Rattle.listener_check.specs.Durations.{number_after, point_in, first_digit, is_zero, digits_found, decimal_found, length_found, duration_read, timed as timed_of};
+ghost use Rattle.typed_program.specs.Terms.{is_tenths as is_tenths_of};
 ghost use Rattle.listener_check.specs.Went.{Goes};
 
 use crate::operand::place;
@@ -11,7 +12,7 @@ use epl_tree::{Duration, DurationNode};
 use epl_values::Shape;
 use span_text::Spot;
 use type_table::{Fault, Refusal};
-use typed_program::{TypedExpr, TypedNode};
+use typed_program::{Duration as Timed, TypedExpr, TypedNode};
 
 fn digit_of(byte: u8) -> u64
     ensures value { result ≡ byte - 48 }
@@ -81,6 +82,23 @@ fn decimal(text: &str, spot: Spot) -> Result<TypedExpr, Refusal>
     }
 }
 
+#[tactic(auto, unfolding(typed_program::specs::Terms::is_tenths))]
+fn is_tenths(typed: &TypedExpr) -> bool
+    ensures { result ≡ is_tenths_of typed.now }
+{
+    matches!(&typed.node, TypedNode::Tenths(_))
+}
+
+/// The operand of a duration among those of the site, and whether it is a literal of tenths.
+#[tactic(auto, using(crate::proofs::Going::going), unfolding(crate::specs::Durations::timed))]
+fn timed(sofar: &mut Sofar, typed: TypedExpr) -> Result<Timed, Refusal>
+    ensures { Goes result (timed_of typed sofar.old) sofar.new }
+{
+    let tenths = is_tenths(&typed);
+    let operand = place(sofar, typed)?;
+    Ok(Timed { operand, tenths })
+}
+
 impl Reader<'_> {
     #[tactic(auto, unfolding(crate::specs::Durations::length_found))]
     fn length(&self, duration: &Duration) -> Result<TypedExpr, Refusal>
@@ -95,13 +113,13 @@ impl Reader<'_> {
         }
     }
 
-    /// The place of a duration among the operands of the site.
+    /// A duration, with its place among the operands of the site.
     #[tactic(auto, using(crate::proofs::Going::going), unfolding(crate::specs::Durations::duration_read))]
-    pub fn duration(&self, sofar: &mut Sofar, duration: &Duration) -> Result<u16, Refusal>
+    pub fn duration(&self, sofar: &mut Sofar, duration: &Duration) -> Result<Timed, Refusal>
         ensures { Goes result (duration_read self.now.table.now self.now.scope.now self.now.inner.now duration.now sofar.old) sofar.new }
     {
         count_sum(sofar, duration.spot)?;
         let typed = self.length(duration)?;
-        place(sofar, typed)
+        timed(sofar, typed)
     }
 }

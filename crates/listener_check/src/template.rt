@@ -10,13 +10,13 @@ use epl_tree::{Name, Template, TemplateClause, TemplateClauses};
 use epl_values::{Fields, Text, Texts};
 use span_text::Spot;
 use type_table::{Fault, Refusal, short};
-use typed_program::TemplateShape;
+use typed_program::{Duration, TemplateShape};
 
-/// The clauses of a template: the place of the name that it binds, and that of its duration.
+/// The clauses of a template: the place of the name that it binds, and its duration.
 #[derive(Clone, Copy)]
 pub struct Clauses {
     pub binds: Option<u16>,
-    pub within: Option<u16>,
+    pub within: Option<Duration>,
 }
 
 fn is_full(binds: Option<u16>, names: &Texts) -> bool
@@ -85,10 +85,10 @@ impl Reader<'_> {
                 })
             }
             TemplateClause::Within(duration) => {
-                let at = self.duration(sofar, duration)?;
+                let timed = self.duration(sofar, duration)?;
                 Ok(Clauses {
                     binds: made.binds,
-                    within: Some(at),
+                    within: Some(timed),
                 })
             }
         }

@@ -285,8 +285,8 @@ impl Reader<'_> {
     {
         match within {
             Some(within) => {
-                let at = self.duration(sofar, within)?;
-                Ok(Term::Group(inner, Some(at)))
+                let timed = self.duration(sofar, within)?;
+                Ok(Term::Group(inner, Some(timed)))
             }
             None => Ok(Term::Group(inner, None)),
         }
@@ -297,8 +297,8 @@ impl Reader<'_> {
         ensures { Goes result (wait_read self.now.table.now self.now.scope.now self.now.inner.now spot duration.now sofar.old) sofar.new }
     {
         count_leaf(sofar, spot)?;
-        let at = self.duration(sofar, duration)?;
-        Ok(Term::Wait(at))
+        let timed = self.duration(sofar, duration)?;
+        Ok(Term::Wait(timed))
     }
 
     #[tactic(auto, using(crate::proofs::Going::going), unfolding(crate::specs::Terms::leaf_template_read))]

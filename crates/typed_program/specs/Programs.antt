@@ -10,7 +10,7 @@ use Rattle.typed_program.specs.declared.program.Site.{Site}
 use Rattle.typed_program.specs.Shapes.{stands, holds_link}
 use Rattle.typed_program.specs.Expressions.{Names, if_known, has, shape_of}
 use Rattle.typed_program.specs.Statements.{Body, row_holds}
-use Rattle.typed_program.specs.Terms.{Around, fits_term}
+use Rattle.typed_program.specs.Terms.{Around, fits_term, is_tenths}
 
 -- the globals of a monitor by number
 abbrev pub global_shapes : Option Monitor → List Shape
@@ -82,7 +82,7 @@ abbrev pub action_so : Program → Action → Bool
 action_so program action = is_there program action.monitor && all_stand program (action.params ++ action.locals) && row_holds (action_body program action) action.body
 
 abbrev pub site_around : Program → Site → Around
-site_around program site = record { types = program.types; operands = map shape_of site.operands; bound = map (λ b. b.shape) site.bound }
+site_around program site = record { types = program.types; operands = map shape_of site.operands; tenths = map is_tenths site.operands; bound = map (λ b. b.shape) site.bound }
 
 -- the callback of a site, and its event expression
 abbrev pub site_so : Program → Site → Bool

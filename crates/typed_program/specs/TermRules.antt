@@ -7,6 +7,7 @@ use Rattle.epl_values.specs.declared.shape.Shape.TheOpen as layer
 use Rattle.epl_tree.specs.declared.expression.Comparison.TheVariants as comparison
 use Rattle.typed_program.specs.declared.term.Term.{Term, Term-F, fold-Term}
 use Rattle.typed_program.specs.declared.term.Term.TheOpen as term
+use Rattle.typed_program.specs.declared.term.Duration.{Duration}
 use Rattle.typed_program.specs.declared.term.TemplateShape.{TemplateShape}
 use Rattle.typed_program.specs.declared.term.Constraint.{Constraint}
 use Rattle.typed_program.specs.declared.term.ConstraintNode.{ConstraintNode}
@@ -100,11 +101,11 @@ joins first (second ∷ rest) = not (first.is_not && second.is_not)
 abbrev pub together : List Part → (List ℕ → Bool) → Part
 together parts lawful = record { binds = binds_all parts; is_not = false; lawful = lawful; leaves = sum (map (λ p. p.leaves) parts); operands = sum (map (λ p. p.operands) parts) }
 
-abbrev pub durations : Option ℕ → ℕ
+abbrev pub durations : Option Duration → ℕ
 durations None = 0
-durations (Some at) = 1
+durations (Some d) = 1
 
-abbrev pub with_deadline : Option ℕ → Part → Part
+abbrev pub with_deadline : Option Duration → Part → Part
 with_deadline within p = record p { is_not = false; lawful = plain p; leaves = durations within + p.leaves; operands = durations within + p.operands }
 
 -- under a `not` nothing is bound
@@ -123,7 +124,7 @@ module _ (types : List EventShape) where
   term_part (term.All t) = together (t ∷ []) (plain t)
   term_part (term.Not t) = negated t
   term_part (term.Group t within) = with_deadline within t
-  term_part (term.Wait at) = record { binds = []; is_not = false; lawful = λ left. true; leaves = 1; operands = 1 }
+  term_part (term.Wait d) = record { binds = []; is_not = false; lawful = λ left. true; leaves = 1; operands = 1 }
   term_part (term.Template t) = record { binds = list_of t.binds; is_not = false; lawful = template_lawful t; leaves = 1; operands = length (operands_of t) + durations t.within }
 
   abbrev pub part_of : Term → Part

@@ -1,11 +1,19 @@
 -- Event expressions: each template is of an event type that is there, and each of its constraints has operands of its field's
--- shape; durations are integers; bound names are events.
+-- shape; durations are integers, and say whether they are tenths; bound names are events.
 use Rattle.std.specs.Prelude.{◌&&◌, ◌==◌, ◌∷◌}
-use Rattle.typed_program.specs.Common.{ℕ, Bool, true, false, List, [], Option, Some, None, slice_get, list_all, Shape, Shape-F, out-Shape, EventShape}
+use Rattle.typed_program.specs.Common.{ℕ, Bool, true, false, not, List, [], Option, Some, None, slice_get, list_all, Shape, Shape-F, out-Shape, EventShape}
 use Rattle.epl_values.specs.declared.shape.Shape.TheVariants as shape
 use Rattle.epl_values.specs.declared.shape.Shape.TheOpen as layer
 use Rattle.typed_program.specs.declared.term.Term.{Term, Term-F, fold-Term}
 use Rattle.typed_program.specs.declared.term.Term.TheOpen as term
+use Rattle.typed_program.specs.declared.expression.TypedEntry.{TypedEntry}
+use Rattle.typed_program.specs.declared.expression.TypedExpr.{TypedExpr, out-TypedExpr}
+use Rattle.typed_program.specs.declared.expression.TypedLink.{TypedLink}
+use Rattle.typed_program.specs.declared.expression.TypedNode.{TypedNode, out-TypedNode}
+use Rattle.typed_program.specs.declared.expression.TypedNode.TheOpen.{TypedNode-F}
+use Rattle.typed_program.specs.declared.expression.TypedSuffix.{TypedSuffix}
+use Rattle.typed_program.specs.declared.expression.TypedSuffixNode.{TypedSuffixNode}
+use Rattle.typed_program.specs.declared.term.Duration.{Duration}
 use Rattle.typed_program.specs.declared.term.TemplateShape.{TemplateShape}
 use Rattle.typed_program.specs.declared.term.Constraint.{Constraint}
 use Rattle.typed_program.specs.declared.term.ConstraintNode.{ConstraintNode}
@@ -15,10 +23,20 @@ use Rattle.typed_program.specs.declared.term.Operand.TheVariants as operand
 use Rattle.typed_program.specs.Shapes.{same, is_scalar}
 use Rattle.typed_program.specs.Expressions.{if_known, field_shape}
 
--- what an event expression may name by number: the event types, its site's operands by shape, and the names that it binds
+-- a literal of tenths of a second
+abbrev pub is_tenths_layer : TypedNode-F TypedNode TypedSuffixNode TypedEntry TypedExpr TypedLink TypedSuffix → Bool
+is_tenths_layer (TypedNode-F.Tenths n) = true
+is_tenths_layer node = false
+
+unfoldable pub is_tenths : TypedExpr → Bool
+is_tenths e = is_tenths_layer (out-TypedNode (out-TypedExpr e).node)
+
+-- what an event expression may name by number: the event types, its site's operands by shape, with whether each is a literal of
+-- tenths, and the names that it binds
 pub record Around : Type 0 where
   pub types : List EventShape
   pub operands : List (Option Shape)
+  pub tenths : List Bool
   pub bound : List Shape
 
 -- the operand of this place is of this shape
@@ -56,9 +74,17 @@ node_fits around s (constraint.Lies range) = operand_so around s range.low.bound
 abbrev pub constraint_so : Around → ℕ → Constraint → Bool
 constraint_so around event c = if_known (λ s. node_fits around s c.node) (field_shape around.types event c.field)
 
-abbrev pub duration_so : Around → Option ℕ → Bool
+-- a duration's operand is an integer, and is a literal of tenths exactly where the duration says so
+abbrev pub as_said : Bool → Bool → Bool
+as_said true tenths = tenths
+as_said false tenths = not tenths
+
+abbrev pub lasts : Around → Duration → Bool
+lasts around d = given_is around shape.Integer d.operand && if_known (as_said d.tenths) (slice_get around.tenths d.operand)
+
+abbrev pub duration_so : Around → Option Duration → Bool
 duration_so around None = true
-duration_so around (Some at) = given_is around shape.Integer at
+duration_so around (Some d) = lasts around d
 
 abbrev pub binds_so : Around → ℕ → Option ℕ → Bool
 binds_so around event None = true
@@ -81,7 +107,7 @@ term_so around (term.And first rest) = first && all_hold rest
 term_so around (term.All t) = t
 term_so around (term.Not t) = t
 term_so around (term.Group t within) = t && duration_so around within
-term_so around (term.Wait at) = duration_so around (Some at)
+term_so around (term.Wait d) = lasts around d
 term_so around (term.Template t) = template_so around t
 
 abbrev pub fits_term : Around → Term → Bool

@@ -19,6 +19,6 @@ pub use program::{
 pub use sqlite_items::Boxed;
 pub use statement::{Stmt, Stmts, TypedPlace, Variable};
 pub use term::{
-    Constraint, ConstraintNode, Constraints, FieldNumbers, Operand, Range, RangeEnd, TemplateShape,
-    Term, Terms,
+    Constraint, ConstraintNode, Constraints, Duration, FieldNumbers, Operand, Range, RangeEnd,
+    TemplateShape, Term, Terms,
 };

@@ -17,15 +17,23 @@ pub enum Term {
     All(Boxed<Term>),
     /// Stands only as one of two operands of an `and`.
     Not(Boxed<Term>),
-    /// In parentheses, with the place of its duration among the site's operands if it has one.
-    Group(Boxed<Term>, Option<u16>),
-    /// The place of its duration among the site's operands.
-    Wait(u16),
+    /// In parentheses, with its duration if it has one.
+    Group(Boxed<Term>, Option<Duration>),
+    Wait(Duration),
     Template(TemplateShape),
 }
 
 /// Event expressions, in order.
 pub type Terms = List<Term>;
+
+/// A duration of an event expression.
+#[derive(Clone, Copy, Debug, PartialEq, Eq)]
+pub struct Duration {
+    /// Its place among the site's operands.
+    pub operand: u16,
+    /// Whether the operand tells tenths of a second; else it tells seconds.
+    pub tenths: bool,
+}
 
 /// What a template asks of an event.
 #[derive(Drop)]
@@ -36,8 +44,8 @@ pub struct TemplateShape {
     pub constraints: Constraints,
     /// The place of the name that the event is bound to among the site's bound names.
     pub binds: Option<u16>,
-    /// The place of the duration of its `within` among the site's operands.
-    pub within: Option<u16>,
+    /// The duration of its `within`.
+    pub within: Option<Duration>,
 }
 
 /// What a template asks of a field.

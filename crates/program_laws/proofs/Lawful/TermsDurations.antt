@@ -7,13 +7,14 @@ use Rattle.epl_tree.specs.declared.event.DurationNode.TheVariants as node
 use Rattle.typed_program.specs.declared.expression.TypedNode.TheVariants as made
 use Rattle.typed_program.specs.declared.expression.TypedNode.TheOpen as typed
 use Rattle.typed_program.specs.Paths.{Node, Pair, plain}
+use Rattle.typed_program.specs.Terms.{is_tenths}
 use Rattle.listener_check.specs.declared.value.Naming.TheVariants as naming
-use Rattle.listener_check.specs.Durations.{digits_found, point_in, length_found, duration_read}
+use Rattle.listener_check.specs.Durations.{digits_found, point_in, length_found, timed, duration_read}
 use Rattle.listener_check.specs.Limits.{sum_read}
 use Rattle.listener_check.specs.Names.{mentions}
 use Rattle.listener_check.specs.Operands.{placed}
 use Rattle.listener_check.specs.Values.{exactly, named_value}
-use Rattle.listener_check.specs.Went.{given, ◌>>=◌}
+use Rattle.listener_check.specs.Went.{given, went, ◌>>=◌}
 use Rattle.stmt_check.specs.Captures.{duration_node}
 use Rattle.program_laws.proofs.Exprs.Sure.{Sure}
 use Rattle.program_laws.proofs.Terms.Astray.{astray_is_told}
@@ -71,17 +72,19 @@ module _ (table : Table) (scope inner : Scope) (w : Widened scope inner) (sight 
   length_lasts spot (node.Decimal text) = decimal_last spot text (point_in text)
   length_lasts spot (node.Seconds e) = seconds_last e (mentions (is_own scope inner) e) refl
 
-  placed_is : (x : TypedExpr) (s : Sofar) → Thus (λ n t. t ≡ record s { operands = s.operands ++ x ∷ [] }) (placed x s)
-  unfolding placed
-  placed_is x s = thus_went (λ n t. t ≡ record s { operands = s.operands ++ x ∷ [] }) _ (record s { operands = s.operands ++ x ∷ [] }) refl
+  timed_is : (x : TypedExpr) (s : Sofar) → Thus (λ n t. t ≡ record s { operands = s.operands ++ x ∷ [] }) (timed x s)
+  unfolding timed placed
+  timed_is x s = thus_then (λ n t. t ≡ record s { operands = s.operands ++ x ∷ [] }) (λ n t. t ≡ record s { operands = s.operands ++ x ∷ [] }) (placed x s) (λ at t. went (record { operand = at; tenths = is_tenths x }) t)
+      (thus_went (λ n t. t ≡ record s { operands = s.operands ++ x ∷ [] }) _ (record s { operands = s.operands ++ x ∷ [] }) refl)
+      (λ at t is. thus_went (λ n t. t ≡ record s { operands = s.operands ++ x ∷ [] }) (record { operand = at; tenths = is_tenths x }) t is)
 
   -- for every duration
   pub duration_brings : (d : Duration) (s : Sofar) → Thus (λ n t. Brought (duration_names d) s t) (duration_read table scope inner d s)
   unfolding duration_read
   duration_brings d s =
-      thus_then (λ u t. t.operands ≡ s.operands) (λ n t. Brought (duration_names d) s t) (sum_read d.spot s) (λ u t. given (length_found table scope inner d.spot d.node) t >>= λ x v. placed x v) (sum_same table scope inner w sight laws d.spot s)
-      (λ u t same. thus_then (λ x v. Lasts d.node x × (v ≡ t)) (λ n v. Brought (duration_names d) s v) (given (length_found table scope inner d.spot d.node) t) (λ x v. placed x v)
+      thus_then (λ u t. t.operands ≡ s.operands) (λ n t. Brought (duration_names d) s t) (sum_read d.spot s) (λ u t. given (length_found table scope inner d.spot d.node) t >>= λ x v. timed x v) (sum_same table scope inner w sight laws d.spot s)
+      (λ u t same. thus_then (λ x v. Lasts d.node x × (v ≡ t)) (λ n v. Brought (duration_names d) s v) (given (length_found table scope inner d.spot d.node) t) (λ x v. timed x v)
       (thus_given (Lasts d.node) (λ x v. Lasts d.node x × (v ≡ t)) (length_found table scope inner d.spot d.node) t (length_lasts d.spot d.node) (λ x q. (q, refl)))
-      (λ x v q. subst (λ (r : Sofar). Thus (λ n y. Brought (duration_names d) s y) (placed x r)) (sym q.1)
-      (thus_weaker (λ n y. y ≡ record t { operands = t.operands ++ x ∷ [] }) (λ n y. Brought (duration_names d) s y) (placed x t) (placed_is x t)
+      (λ x v q. subst (λ (r : Sofar). Thus (λ n y. Brought (duration_names d) s y) (timed x r)) (sym q.1)
+      (thus_weaker (λ n y. y ≡ record t { operands = t.operands ++ x ∷ [] }) (λ n y. Brought (duration_names d) s y) (timed x t) (timed_is x t)
       (λ n y is. subst (λ (z : Sofar). Brought (duration_names d) s z) (sym is) (brings_from table scope inner w sight laws (duration_names d) s t _ same (let l = q.0 in l.brings t))))))

@@ -2,7 +2,7 @@
 use Rattle.std.proofs.Common.{◌≡◌, ◌≤◌, ◌∷◌, ◌&&◌}
 use Rattle.program_laws.proofs.Common.{ℕ, suc, length, map, List, [], Some, Bool, true, false, list_all, EventShape, Shape, EventExpr, Expr, Place, TypedExpr, TypedTerm, Names, if_known, holds, have, shape_of, walks, stepping, stands, variable_shape, fits_term, Scope, Seen, ParamHead, Table, Demand, typed_arguments, param_wants, Target, place_found, expr_found, answers, wish_stands, term_found, bound_in, known_shape, expr_names, place_names, event_names, exprs_name}
 use Rattle.typed_program.specs.Shapes.{is_event}
-use Rattle.typed_program.specs.Terms.{Around}
+use Rattle.typed_program.specs.Terms.{Around, is_tenths}
 use Rattle.type_table.specs.declared.scope.SeenKind.TheVariants as kind
 use Rattle.expr_check.specs.Expressions.{part_of as expr_part}
 use Rattle.program_laws.proofs.Shapes.Frames.{KnowsNamed}
@@ -27,7 +27,7 @@ AreBound types n [] = Unit {0}
 AreBound types n (b ∷ bs) = IsBound types n b × AreBound types (suc n) bs
 
 abbrev pub around_term : Names → TypedTerm → Around
-around_term names typed = record { types = names.types; operands = map shape_of typed.operands; bound = map (λ b. b.shape) typed.bound }
+around_term names typed = record { types = names.types; operands = map shape_of typed.operands; tenths = map is_tenths typed.operands; bound = map (λ b. b.shape) typed.bound }
 
 abbrev pub gives_value : Names → TypedExpr → Bool
 gives_value names e = holds names e && if_known (λ s. true) (shape_of e)

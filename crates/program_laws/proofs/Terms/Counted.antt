@@ -8,13 +8,14 @@ use Rattle.typed_program.specs.declared.term.Constraint.{Constraint as Typed}
 use Rattle.typed_program.specs.declared.term.ConstraintNode.{ConstraintNode as TypedNode}
 use Rattle.typed_program.specs.declared.term.ConstraintNode.TheVariants as made
 use Rattle.typed_program.specs.declared.term.Operand.TheVariants as operand
+use Rattle.typed_program.specs.Terms.{is_tenths}
 use Rattle.listener_check.specs.declared.value.Naming.TheVariants as naming
 use Rattle.listener_check.specs.Constraints.{compares_read, lies_read, asked_read, placed_read}
-use Rattle.listener_check.specs.Durations.{length_found, duration_read}
+use Rattle.listener_check.specs.Durations.{length_found, timed, duration_read}
 use Rattle.listener_check.specs.Limits.{short, sum_read}
 use Rattle.listener_check.specs.Operands.{Layer, layer_of, path_in, placed, signed, last_of, added_operand, sum_operand, given_operand, operand_of, named_operand, operand_read, is_integer}
 use Rattle.listener_check.specs.Values.{named_value}
-use Rattle.listener_check.specs.Went.{given, ◌>>=◌}
+use Rattle.listener_check.specs.Went.{given, went, ◌>>=◌}
 use Rattle.program_laws.proofs.Terms.Thus.{Thus, thus_went, thus_then, thus_behind, thus_given, thus_through, thus_weaker}
 
 -- so many operands and durations, and nothing else that is counted
@@ -82,14 +83,18 @@ module _ (table : Table) (scope inner : Scope) where
       thus_then (λ u t. Used 1 s t) (λ x t. Used 1 s t) (sum_read (out-Expr e).spot s) (λ u t. named_operand table scope inner (naming_of scope inner left (is_integer shape) e) shape e t) (sum_used (out-Expr e).spot s)
       (λ u t a. thus_weaker (λ x v. Used 0 t v) (λ x v. Used 1 s v) (named_operand table scope inner (naming_of scope inner left (is_integer shape) e) shape e t) (named_used (naming_of scope inner left (is_integer shape) e) shape e t) (λ x v b. used_as (1 + 0) 1 s v (omega arith) (used_on 1 0 s t v a b)))
 
+  timed_used : (x : TypedExpr) (s : Sofar) → Thus (λ y t. Used 0 s t) (timed x s)
+  unfolding timed
+  timed_used x s = thus_then (λ y t. Used 0 s t) (λ y t. Used 0 s t) (placed x s) (λ at t. went (record { operand = at; tenths = is_tenths x }) t) (placed_used x s) (λ at t u. thus_went (λ y t. Used 0 s t) (record { operand = at; tenths = is_tenths x }) t u)
+
   -- for every duration
   pub duration_used : (d : Duration) (s : Sofar) → Thus (λ x t. Used 1 s t) (duration_read table scope inner d s)
   unfolding duration_read
   duration_used d s =
-      thus_then (λ u t. Used 1 s t) (λ x t. Used 1 s t) (sum_read d.spot s) (λ u t. given (length_found table scope inner d.spot d.node) t >>= λ x v. placed x v) (sum_used d.spot s)
-      (λ u t a. thus_then (λ x v. v ≡ t) (λ x v. Used 1 s v) (given (length_found table scope inner d.spot d.node) t) (λ x v. placed x v) (given_used (length_found table scope inner d.spot d.node) t)
-      (λ x v is. subst (λ (w : Sofar). Thus (λ y r. Used 1 s r) (placed x w)) (sym is)
-      (thus_weaker (λ y r. Used 0 t r) (λ y r. Used 1 s r) (placed x t) (placed_used x t) (λ y r b. used_as (1 + 0) 1 s r (omega arith) (used_on 1 0 s t r a b)))))
+      thus_then (λ u t. Used 1 s t) (λ x t. Used 1 s t) (sum_read d.spot s) (λ u t. given (length_found table scope inner d.spot d.node) t >>= λ x v. timed x v) (sum_used d.spot s)
+      (λ u t a. thus_then (λ x v. v ≡ t) (λ x v. Used 1 s v) (given (length_found table scope inner d.spot d.node) t) (λ x v. timed x v) (given_used (length_found table scope inner d.spot d.node) t)
+      (λ x v is. subst (λ (w : Sofar). Thus (λ y r. Used 1 s r) (timed x w)) (sym is)
+      (thus_weaker (λ y r. Used 0 t r) (λ y r. Used 1 s r) (timed x t) (timed_used x t) (λ y r b. used_as (1 + 0) 1 s r (omega arith) (used_on 1 0 s t r a b)))))
 
   -- ---- constraints
 

@@ -1,7 +1,7 @@
 -- An event expression in which no fault is found, where those names are known that it names: its shapes, its operands and its bound names.
 use Rattle.std.proofs.Common.{◌≡◌, ◌≤◌, ◌++◌}
 use Rattle.program_laws.proofs.Common.{true, false, List, [], map, length, refl, sym, ap, ◌∙◌, arith, list_all, drop-append_seam, append-nil, length-map, EventExpr, TypedExpr, Local, Names, shape_of, fits_term, Scope, Seen, Table, KnowsTable, KnowsNamed, inner_of, bound_of, local_of, term_read, nothing_yet, term_found, event_names}
-use Rattle.typed_program.specs.Terms.{Around}
+use Rattle.typed_program.specs.Terms.{Around, is_tenths}
 use Rattle.program_laws.proofs.Terms.Bounds.{Numbered}
 use Rattle.program_laws.proofs.Terms.Binding.{grows_self}
 use Rattle.program_laws.proofs.Terms.States.{Settled, State, present, around}
@@ -22,7 +22,7 @@ module _ {table : Table} {names : Names} {scope : Scope} (k : KnowsTable table n
   settled = let state = all_read.state in record { bound = state.bound; is = state.is; numbered = state.numbered }
 
   abbrev site_around : Around
-  site_around = let part = (term_found table scope tree).part in record { types = names.types; operands = map shape_of part.operands; bound = map (λ (b : Local). b.shape) part.bound }
+  site_around = let part = (term_found table scope tree).part in record { types = names.types; operands = map shape_of part.operands; tenths = map is_tenths part.operands; bound = map (λ (b : Local). b.shape) part.bound }
 
   -- each template is of its event type, each operand of its field's shape, and each bound name an event
   pub term_fits : fits_term site_around (term_found table scope tree).part.term ≡ true

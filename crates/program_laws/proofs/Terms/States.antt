@@ -1,7 +1,7 @@
 -- What stands in front of a part of an event expression, and what holds of a part behind it.
 use Rattle.std.proofs.Common.{◌≡◌, ◌<◌, ◌≤◌, ◌&&◌, ◌∷◌, ◌++◌}
 use Rattle.program_laws.proofs.Common.{ℕ, Bool, true, nat_le, List, [], map, length, Some, is_some, slice_get, refl, sym, ap, subst, ◌∙◌, arith, append_assoc, list_all, and_from, nat_tests, length_push, append-nil, list_all-append, Spot, TypedExpr, Names, holds, shape_of, Scope, Seen, told, Sofar, bound_of, leaf_codes, with_leaf, sum_codes, with_sum, went}
-use Rattle.typed_program.specs.Terms.{Around}
+use Rattle.typed_program.specs.Terms.{Around, is_tenths}
 use Rattle.listener_check.specs.Limits.{short, leaf_read, sum_read}
 use Rattle.listener_check.specs.Operands.{placed}
 use Rattle.program_laws.proofs.Shapes.Lists.{no_told, no_if}
@@ -43,7 +43,7 @@ module _ (names : Names) (scope inner : Scope) where
     pub hold : Settled → list_all (present names) s.operands ≡ true
 
   unfoldable pub around : List TypedExpr → Around
-  around ops = record { types = names.types; operands = map shape_of ops; bound = map (λ l. l.shape) (bound_of scope inner) }
+  around ops = record { types = names.types; operands = map shape_of ops; tenths = map is_tenths ops; bound = map (λ l. l.shape) (bound_of scope inner) }
 
   -- a part that is as it should be behind what stands in front, and wherever more stands behind it
   pub record Made {A : Type 0} (good : A → Around → Bool) (b : Scope) (s : Sofar) (x : A) (t : Sofar) : Type 0 where
@@ -91,15 +91,16 @@ module _ (names : Names) (scope inner : Scope) where
 
   -- ---- operands
 
-  at_end : (ops : List TypedExpr) (e : TypedExpr) (more : List TypedExpr) → slice_get (map shape_of ((ops ++ e ∷ []) ++ more)) (length ops) ≡ Some (shape_of e)
-  at_end [] e more = refl
-  at_end (o ∷ ops) e more = at_end ops e more
+  at_end : {B : Type 0} (f : TypedExpr → B) (ops : List TypedExpr) (e : TypedExpr) (more : List TypedExpr) → slice_get (map f ((ops ++ e ∷ []) ++ more)) (length ops) ≡ Some (f e)
+  at_end f [] e more = refl
+  at_end f (o ∷ ops) e more = at_end f ops e more
 
   -- a value at its place among the operands of the site
   pub record Placed (b : Scope) (s : Sofar) (e : TypedExpr) (at : ℕ) (t : Sofar) : Type 0 where
     pub state : State b t
     pub grows : Extends s t
     pub there : (more : List TypedExpr) → slice_get (around (t.operands ++ more)).operands at ≡ Some (shape_of e)
+    pub told : (more : List TypedExpr) → slice_get (around (t.operands ++ more)).tenths at ≡ Some (is_tenths e)
 
   pub placed_thus : (b : Scope) (s : Sofar) (e : TypedExpr) → State b s → length s.operands < s.sums → (Settled → present names e ≡ true) → Thus (Placed b s e) (placed e s)
   unfolding placed around
@@ -120,5 +121,6 @@ module _ (names : Names) (scope inner : Scope) where
           hold = λ z. list_all-append (present names) s.operands (e ∷ []) ∙ and_from (list_all (present names) s.operands) (present names e && true) (h.hold z) (and_from (present names e) true (good z) refl);
         };
         grows = record { more = e ∷ []; are = refl };
-        there = λ more. ap (λ (n : ℕ). slice_get (map shape_of ((s.operands ++ e ∷ []) ++ more)) n) small ∙ at_end s.operands e more;
+        there = λ more. ap (λ (n : ℕ). slice_get (map shape_of ((s.operands ++ e ∷ []) ++ more)) n) small ∙ at_end shape_of s.operands e more;
+        told = λ more. ap (λ (n : ℕ). slice_get (map is_tenths ((s.operands ++ e ∷ []) ++ more)) n) small ∙ at_end is_tenths s.operands e more;
       })

@@ -3,6 +3,7 @@ use Rattle.std.proofs.Common.{◌≡◌, ◌<◌, ◌&&◌, ◌∷◌, ◌++◌}
 use Rattle.program_laws.proofs.Common.{ℕ, Bool, true, List, [], map, length, Option, Some, None, slice_get, refl, sym, ap, subst, ◌∙◌, arith, list_all, and_from, and_parts, Spot, Field, EventShape, Shape, Template, TemplateClause, TypedExpr, TemplateShape, same, Names, if_known, constraint_so, duration_so, Scope, Table, told, event_of, KnowsTable, KnowsNamed, Done, Sofar, Clauses, clause_binds, clauses_bind, constraints_read, fields_of, no_clauses, clauses_read, template_of, template_read, went, any_of, constraint_names, clause_names, template_names}
 use Rattle.epl_values.specs.declared.shape.Shape.TheVariants as shape
 use Rattle.epl_tree.specs.declared.event.TemplateClause.TheVariants as clause
+use Rattle.typed_program.specs.declared.term.Duration.{Duration as Timed}
 use Rattle.typed_program.specs.Terms.{Around, binds_so, is_there, template_so}
 use Rattle.listener_check.specs.Durations.{duration_read}
 use Rattle.listener_check.specs.Limits.{short, leaf_read}
@@ -49,7 +50,7 @@ module _ (table : Table) (names : Names) (scope inner : Scope) (k : KnowsTable t
               let before = grows_on b c inner (clause_grows table outer name (clause.As text) b) g in
               and_from (binds_so (around names scope inner (u.operands ++ more)) (short n) (Some place)) (duration_so (around names scope inner (u.operands ++ more)) made.within)
               (ap (λ (o : Option Shape). if_known (same (shape.Event (short n))) o) (q.at g) ∙ same_self (shape.Event (short n)))
-              (fit_on names scope inner (λ (w : Option ℕ) (a : Around). duration_so a w) made.within t u (λ rest. (and_parts (binds_so (around names scope inner (t.operands ++ rest)) (short n) made.binds) (duration_so (around names scope inner (t.operands ++ rest)) made.within) (m.fit z before rest)).1) q.grows more);
+              (fit_on names scope inner (λ (w : Option Timed) (a : Around). duration_so a w) made.within t u (λ rest. (and_parts (binds_so (around names scope inner (t.operands ++ rest)) (short n) made.binds) (duration_so (around names scope inner (t.operands ++ rest)) made.within) (m.fit z before rest)).1) q.grows more);
         }))
     clause_thus under start b made (clause.Within duration) named t m =
         thus_then (Made names scope inner (Lasts table names scope inner k) b t) (Reads names scope inner ClausesSo start b) (duration_read table scope inner duration t) (λ at u. went (record made { within = Some at }) u)

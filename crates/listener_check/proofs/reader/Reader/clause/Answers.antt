@@ -6,6 +6,6 @@ pub returns-in_ok-place-in-As : goal.returns-in_ok-place-in-As
 unfolding clause_read
 returns-in_ok-place-in-As c = rw c.in-As.is (on-part _ _ _ _ c.in_ok-place-in-As.ensures)
 
-pub returns-in_ok-at-in-Within : goal.returns-in_ok-at-in-Within
+pub returns-in_ok-timed-in-Within : goal.returns-in_ok-timed-in-Within
 unfolding clause_read
-returns-in_ok-at-in-Within c = rw c.in-Within.is (on-part _ _ _ _ c.in_ok-at-in-Within.ensures)
+returns-in_ok-timed-in-Within c = rw c.in-Within.is (on-part _ _ _ _ c.in_ok-timed-in-Within.ensures)

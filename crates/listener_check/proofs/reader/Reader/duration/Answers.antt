@@ -4,7 +4,7 @@ use Rattle.listener_check.proofs.reader.Reader.duration.Goals as goal
 
 pub returns : goal.returns
 unfolding duration_read
-returns c = goes-on _ _ _ _ _ _ c.in_ok-count_sum.ensures (goes-on _ _ _ _ _ _ (given-sound _ _ _ c.in_ok-typed.ensures.0 c.in_ok-typed.ensures.1) c.place.ensures)
+returns c = goes-on _ _ _ _ _ _ c.in_ok-count_sum.ensures (goes-on _ _ _ _ _ _ (given-sound _ _ _ c.in_ok-typed.ensures.0 c.in_ok-typed.ensures.1) c.timed.ensures)
 
 pub returns-in_err-typed : goal.returns-in_err-typed
 unfolding duration_read
