@@ -6,6 +6,7 @@ use Rattle.epl_values.specs.declared.value.Value.{fold-Value}
 use Rattle.epl_values.specs.declared.value.Value.TheOpen as layer
 use Rattle.epl_values.specs.declared.value.Value.TheVariants as value
 use Rattle.epl_values.specs.declared.value.Pair.{Pair-F}
+use Rattle.typed_program.specs.declared.term.Duration.{Duration}
 use Rattle.typed_program.specs.declared.term.Term.{Term, Term-F, fold-Term}
 use Rattle.typed_program.specs.declared.term.Term.TheOpen as term
 use Rattle.action_host.specs.declared.host.Fault.TheVariants as fault
@@ -111,9 +112,9 @@ current = by_scene (λ scene. pure (value.Context scene.slot))
 -- ---- listeners
 
 -- a deadline is a leaf of its own
-abbrev pub deadline_leaves : Option ℕ → ℕ
+abbrev pub deadline_leaves : Option Duration → ℕ
 deadline_leaves None = 0
-deadline_leaves (Some at) = 1
+deadline_leaves (Some d) = 1
 
 -- the leaves that begin where an event expression starts: of `->` those of its left side
 abbrev pub starting_step : Term-F ℕ → ℕ
@@ -124,7 +125,7 @@ starting_step (term.And first rest) = first + sum rest
 starting_step (term.All t) = t
 starting_step (term.Not t) = t
 starting_step (term.Group t within) = deadline_leaves within + t
-starting_step (term.Wait at) = 1
+starting_step (term.Wait d) = 1
 starting_step (term.Template t) = 1
 
 abbrev pub starting : Term → ℕ

@@ -45,7 +45,7 @@ use Rattle.listener_check.specs.declared.value.Naming.TheVariants as naming
 use Rattle.listener_check.specs.Bound as bind
 use Rattle.listener_check.specs.Bound.{is_among, seen_bound, with_bound, clause_binds, clauses_bind, binds}
 use Rattle.listener_check.specs.Constraints.{number_of, missing_code, field_codes, constraint_read, constraint_step, constraints_read, none_done, compares_read, lies_read, asked_read, placed_read, missing_read, found_read, numbered_read}
-use Rattle.listener_check.specs.Durations.{length_found, duration_read}
+use Rattle.listener_check.specs.Durations.{length_found, timed, duration_read}
 use Rattle.listener_check.specs.Limits.{short, with_leaf, leaf_read, with_sum, sum_read}
 use Rattle.listener_check.specs.Operands.{Layer, placed, added_operand, sum_layer, sum_operand, given_operand, operand_of, is_integer, named_operand, operand_read, path_in, last_of}
 use Rattle.listener_check.specs.Operands.{layer_of as typed_layer}
@@ -109,10 +109,14 @@ same_operand naming.Plus x s = same_layer naming.Plus (typed_layer x) s
 same_operand naming.Minus x s = same_layer naming.Minus (typed_layer x) s
 same_operand n x s = same_given_operand x s
 
+same_timed : (x : TypedExpr) (s : Sofar) → Thus (Same s) (timed x s)
+unfolding timed
+same_timed x s = same_then s (placed x s) _ (same_placed x s) (λ at t. same_went _ t t refl)
+
 module _ (table : Table) (scope inner : Scope) where
   same_duration : (d : Duration) (s : Sofar) → Thus (Same s) (duration_read table scope inner d s)
   unfolding duration_read
-  same_duration d s = same_then s (sum_read d.spot s) _ (same_sum d.spot s) (λ x t. same_then t (given (length_found table scope inner d.spot d.node) t) _ (same_given (length_found table scope inner d.spot d.node) t) (λ y u. same_placed y u))
+  same_duration d s = same_then s (sum_read d.spot s) _ (same_sum d.spot s) (λ x t. same_then t (given (length_found table scope inner d.spot d.node) t) _ (same_given (length_found table scope inner d.spot d.node) t) (λ y u. same_timed y u))
 
   same_operand_read : (left : List (List ℕ)) (shape : Shape) (e : Expr) (s : Sofar) → Thus (Same s) (operand_read table scope inner left shape e s)
   unfolding operand_read named_operand

@@ -40,12 +40,14 @@ use Rattle.type_table.specs.declared.scope.Scope.{Scope}
 use Rattle.type_table.specs.declared.table.Table.{Table}
 use Rattle.type_table.specs.Found.{told}
 use Rattle.expr_check.specs.Expressions.{part_of, typed_of}
+use Rattle.typed_program.specs.declared.term.Duration.{Duration as Timed}
+use Rattle.typed_program.specs.Terms.{is_tenths}
 use Rattle.listener_check.specs.declared.sofar.Sofar.{Sofar}
 use Rattle.listener_check.specs.declared.operand.Reached.{Reached}
 use Rattle.listener_check.specs.declared.value.Naming.{Naming}
 use Rattle.listener_check.specs.declared.value.Naming.TheVariants as naming
 use Rattle.listener_check.specs.Bound.{is_own, is_among}
-use Rattle.listener_check.specs.Durations.{number_after, point_in, decimal_by, digits_found, tenths_of, length_found, duration_read}
+use Rattle.listener_check.specs.Durations.{number_after, point_in, decimal_by, digits_found, tenths_of, length_found, timed, duration_read}
 use Rattle.listener_check.specs.Durations.{first_digit as first_of, tenths as tenths_made}
 use Rattle.listener_check.specs.Limits.{short, sum_codes, with_sum, sum_read}
 use Rattle.listener_check.specs.Names.{mentions}
@@ -228,15 +230,23 @@ module _ (around : Around) (names bound_names : List Named) (listed : List (List
     duration_by (duration.Decimal text) operands at p = rule.decimal p.there p.good
     duration_by (duration.Seconds e) operands at p = rule.seconds (record { value = p.value; there = p.there; resolved = p.good })
 
-    pub duration_stays : (d : Duration) (s : Sofar) → Known (duration_names d) → Room s → Thus (Stays (λ i at. DurationIs i d.node at) s) (duration_read table scope inner d s)
+    -- its operand at its place
+    abbrev Lasting : DurationNode → Inside → Timed → Type 0
+    Lasting d i timed = DurationIs i d timed.operand
+
+    timed_stays : (d : DurationNode) (x : TypedExpr) (s : Sofar) → Spare s → LengthIs d x → Thus (Stays (Lasting d) s) (timed x s)
+    unfolding timed
+    timed_stays d x s spare is =
+        stays_then (PlacedAs (LengthIs d)) (Lasting d) (placed x s) (λ at t. went (record { operand = at; tenths = is_tenths x }) t) s (placed_stays (LengthIs d) x s spare is)
+        (λ at t room. thus_went (Stays (λ i y. PlacedAs (LengthIs d) i at → Lasting d i y) t) (record { operand = at; tenths = is_tenths x }) t (record { behind = behind_same t t refl refl room; good = λ operands ends p. duration_by d operands at p }))
+
+    pub duration_stays : (d : Duration) (s : Sofar) → Known (duration_names d) → Room s → Thus (Stays (Lasting d.node) s) (duration_read table scope inner d s)
     unfolding duration_read
     duration_stays d s known room =
-        summed (λ i at. DurationIs i d.node at) d.spot (λ _ s. given (length_found table scope inner d.spot d.node) s >>= λ x s. placed x s) s room (λ spare.
-        thus_then (λ x t. (t ≡ with_sum s) × LengthIs d.node x) (Stays (λ i at. DurationIs i d.node at) (with_sum s)) (given (length_found table scope inner d.spot d.node) (with_sum s)) (λ x s. placed x s)
+        summed (Lasting d.node) d.spot (λ _ s. given (length_found table scope inner d.spot d.node) s >>= λ x s. timed x s) s room (λ spare.
+        thus_then (λ x t. (t ≡ with_sum s) × LengthIs d.node x) (Stays (Lasting d.node) (with_sum s)) (given (length_found table scope inner d.spot d.node) (with_sum s)) (λ x s. timed x s)
         (thus_given (LengthIs d.node) (λ x t. (t ≡ with_sum s) × LengthIs d.node x) (length_found table scope inner d.spot d.node) (with_sum s) (length_sure d.spot d.node known) (λ x p. (refl, p)))
-        (λ x t h. subst (λ (u : Sofar). Thus (Stays (λ i at. DurationIs i d.node at) (with_sum s)) (placed x u)) (sym h.0)
-        (thus_weaker (Stays (PlacedAs (LengthIs d.node)) (with_sum s)) (Stays (λ i at. DurationIs i d.node at) (with_sum s)) (placed x (with_sum s)) (placed_stays (LengthIs d.node) x (with_sum s) spare h.1)
-        (λ at u k. record { behind = k.behind; good = λ operands ends. duration_by d.node operands at (k.good operands ends) }))))
+        (λ x t h. subst (λ (u : Sofar). Thus (Stays (Lasting d.node) (with_sum s)) (timed x u)) (sym h.0) (timed_stays d.node x (with_sum s) spare h.1)))
 
     -- ---- operands
 

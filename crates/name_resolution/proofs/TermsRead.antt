@@ -185,9 +185,9 @@ module _ (around : Around) (names bound : List Named) (listed : List (List ℕ))
       })))
       (λ place u r. last (λ i b. ((o : Option Shape) × BoundAs i name.text place o) → Onward a (clause.As name) i b) (record a { binds = Some place }) u r (λ operands p cs z h. rule.as_name p.1 h))
   clause_stays under a (clause.Within d) t known room =
-      stays_then around names bound listed (λ i at. DurationIs i d.node at) (Onward a (clause.Within d)) (duration_read table scope inner d t) (λ at u. went (record a { within = Some at }) u) t
+      stays_then around names bound listed (λ i at. DurationIs i d.node at.operand) (Onward a (clause.Within d)) (duration_read table scope inner d t) (λ at u. went (record a { within = Some at }) u) t
       (duration_stays around names bound listed table scope inner types acts owned d t known room)
-      (λ at u r. last (λ i b. DurationIs i d.node at → Onward a (clause.Within d) i b) (record a { within = Some at }) u r (λ operands p cs z h. rule.in_time p h))
+      (λ at u r. last (λ i b. DurationIs i d.node at.operand → Onward a (clause.Within d) i b) (record a { within = Some at }) u r (λ operands p cs z h. rule.in_time p h))
 
   clauses_stay : (under : Bool) (cs : List TemplateClause) (a : Clauses) (t : Sofar) → Known (any_of (map clause_names cs)) → Room t → Thus (S (Clauses2 a cs) t) (through (clause_read table scope inner under) a cs t)
   unfolding through
@@ -380,8 +380,8 @@ module _ (around : Around) (names bound : List Named) (listed : List (List ℕ))
   unfolding ended_read
   ended_stays e t None s known room = last (λ i y. TermOf e i t → Made (event.Group e None) i y) (term.Group t None) s room (λ operands h. made (within around names bound listed operands) (event.Group e None) (layer.Group t None) (term.Group t None) (term.outs-Group t None) (rule.group h))
   ended_stays e t (Some d) s known room =
-      stays_then around names bound listed (λ i at. DurationIs i d.node at) (λ i y. TermOf e i t → Made (event.Group e (Some d)) i y) (duration_read table scope inner d s) (λ at u. went (term.Group t (Some at)) u) s (duration_stays around names bound listed table scope inner types acts owned d s known room)
-      (λ at u r. last (λ i y. DurationIs i d.node at → TermOf e i t → Made (event.Group e (Some d)) i y) (term.Group t (Some at)) u r (λ operands h k. made (within around names bound listed operands) (event.Group e (Some d)) (layer.Group t (Some at)) (term.Group t (Some at)) (term.outs-Group t (Some at)) (rule.timed k h)))
+      stays_then around names bound listed (λ i at. DurationIs i d.node at.operand) (λ i y. TermOf e i t → Made (event.Group e (Some d)) i y) (duration_read table scope inner d s) (λ at u. went (term.Group t (Some at)) u) s (duration_stays around names bound listed table scope inner types acts owned d s known room)
+      (λ at u r. last (λ i y. DurationIs i d.node at.operand → TermOf e i t → Made (event.Group e (Some d)) i y) (term.Group t (Some at)) u r (λ operands h k. made (within around names bound listed operands) (event.Group e (Some d)) (layer.Group t (Some at)) (term.Group t (Some at)) (term.outs-Group t (Some at)) (rule.timed k h)))
 
   deadline_stays : (spot : Spot) (limit : Option Duration) (s : Sofar) → Room s → Thus (S (λ i x. Unit {0}) s) (deadline_read spot limit s)
   unfolding deadline_read leaf_read
@@ -400,8 +400,8 @@ module _ (around : Around) (names bound : List Named) (listed : List (List ℕ))
   unfolding wait_read
   wait_stays spot d = record {
     reads = λ known may under left s room. leaf_then (Made (event.Wait d)) spot (λ x u. duration_read table scope inner d u >>= λ at v. went (term.Wait at) v) s room (λ u r.
-        stays_then around names bound listed (λ i at. DurationIs i d.node at) (Made (event.Wait d)) (duration_read table scope inner d u) (λ at v. went (term.Wait at) v) u (duration_stays around names bound listed table scope inner types acts owned d u known r)
-        (λ at v r'. last (λ i y. DurationIs i d.node at → Made (event.Wait d) i y) (term.Wait at) v r' (λ operands h. made (within around names bound listed operands) (event.Wait d) (layer.Wait at) (term.Wait at) (term.outs-Wait at) (rule.wait h))));
+        stays_then around names bound listed (λ i at. DurationIs i d.node at.operand) (Made (event.Wait d)) (duration_read table scope inner d u) (λ at v. went (term.Wait at) v) u (duration_stays around names bound listed table scope inner types acts owned d u known r)
+        (λ at v r'. last (λ i y. DurationIs i d.node at.operand → Made (event.Wait d) i y) (term.Wait at) v r' (λ operands h. made (within around names bound listed operands) (event.Wait d) (layer.Wait at) (term.Wait at) (term.outs-Wait at) (rule.wait h))));
   }
 
   template_stays : (spot : Spot) (t : Template) → PartStays (template_names t) (event.Template t) (plain (λ under left s. leaf_template_read table scope inner spot under left t s))

@@ -36,6 +36,7 @@ use Rattle.typed_program.specs.declared.term.ConstraintNode.TheVariants as asked
 use Rattle.typed_program.specs.declared.term.Operand.{Operand}
 use Rattle.typed_program.specs.declared.term.Operand.TheVariants as operand
 use Rattle.typed_program.specs.declared.term.Range.{Range as TypedRange}
+use Rattle.typed_program.specs.declared.term.Duration.{Duration as Timed}
 use Rattle.typed_program.specs.declared.term.TemplateShape.{TemplateShape}
 use Rattle.typed_program.specs.declared.term.Term.{Term, Term-F, out-Term}
 use Rattle.typed_program.specs.declared.term.Term.TheOpen as term
@@ -129,10 +130,10 @@ pub data ConstraintsAre (i : Inside) (fields : List Field) : ℕ → List Constr
 -- ---- templates
 
 -- the clauses behind those that gave a name and a duration, and what they give together
-pub data ClausesAre (i : Inside) : Option ℕ → Option ℕ → List TemplateClause → Option ℕ → Option ℕ → Type 0 where
-  no_clauses : {binds within : Option ℕ} → ClausesAre i binds within [] binds within
-  as_name : {binds within binds' within' : Option ℕ} {name : Name} {place : ℕ} {s : Option Shape} {cs : List TemplateClause} → BoundAs i name.text place s → ClausesAre i (Some place) within cs binds' within' → ClausesAre i binds within (clause.As name ∷ cs) binds' within'
-  in_time : {binds within binds' within' : Option ℕ} {d : Duration} {at : ℕ} {cs : List TemplateClause} → DurationIs i d.node at → ClausesAre i binds (Some at) cs binds' within' → ClausesAre i binds within (clause.Within d ∷ cs) binds' within'
+pub data ClausesAre (i : Inside) : Option ℕ → Option Timed → List TemplateClause → Option ℕ → Option Timed → Type 0 where
+  no_clauses : {binds : Option ℕ} {within : Option Timed} → ClausesAre i binds within [] binds within
+  as_name : {binds binds' : Option ℕ} {within within' : Option Timed} {name : Name} {place : ℕ} {s : Option Shape} {cs : List TemplateClause} → BoundAs i name.text place s → ClausesAre i (Some place) within cs binds' within' → ClausesAre i binds within (clause.As name ∷ cs) binds' within'
+  in_time : {binds binds' : Option ℕ} {within within' : Option Timed} {d : Duration} {at : Timed} {cs : List TemplateClause} → DurationIs i d.node at.operand → ClausesAre i binds (Some at) cs binds' within' → ClausesAre i binds within (clause.Within d ∷ cs) binds' within'
 
 abbrev pub fields_at : Option EventShape → List Field
 fields_at (Some t) = t.fields
@@ -166,8 +167,8 @@ mutual
     all : {e : EventExpr} {t : Term} → TermIs i e t → NodeIs i (event.All e) (term.All t)
     negation : {e : EventExpr} {t : Term} → TermIs i e t → NodeIs i (event.Not e) (term.Not t)
     group : {e : EventExpr} {t : Term} → TermIs i e t → NodeIs i (event.Group e None) (term.Group t None)
-    timed : {e : EventExpr} {t : Term} {d : Duration} {at : ℕ} → TermIs i e t → DurationIs i d.node at → NodeIs i (event.Group e (Some d)) (term.Group t (Some at))
-    wait : {d : Duration} {at : ℕ} → DurationIs i d.node at → NodeIs i (event.Wait d) (term.Wait at)
+    timed : {e : EventExpr} {t : Term} {d : Duration} {at : Timed} → TermIs i e t → DurationIs i d.node at.operand → NodeIs i (event.Group e (Some d)) (term.Group t (Some at))
+    wait : {d : Duration} {at : Timed} → DurationIs i d.node at.operand → NodeIs i (event.Wait d) (term.Wait at)
     template : {t : Template} {x : TemplateShape} → TemplateIs i t x → NodeIs i (event.Template t) (term.Template x)
 
   pub data TermsAre (i : Inside) : List EventExpr → List Term → Type 0 where

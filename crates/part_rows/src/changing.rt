@@ -6,7 +6,7 @@ use epl_tree::{Comparison, Operator};
 use epl_values::{EventShapes, Value};
 use sqlite_items::Boxed;
 use std::alloc::{AllocError, Global};
-use typed_program::{Method, Term, Terms};
+use typed_program::{Duration, Method, Term, Terms};
 use value_steps::{
     Trouble, alter, calculated, compared, joined, put_entry, starting, store, substring,
     taken_along,
@@ -132,21 +132,28 @@ pub fn along(alloc: Global, types: &EventShapes, line: &mut Reader<'_>) -> Resul
     with_births(alloc, types, &Value::Sequence(as_elements(alloc, taken)?))
 }
 
+fn seconds(operand: u16) -> Duration {
+    Duration {
+        operand,
+        tenths: false,
+    }
+}
+
 fn wait(alloc: Global) -> Result<Boxed<Term>, AllocError> {
-    Boxed::new(alloc, Term::Wait(0))
+    Boxed::new(alloc, Term::Wait(seconds(0)))
 }
 
 fn waits(alloc: Global) -> Result<Terms, AllocError> {
     let mut terms = Terms::new(alloc);
-    terms.push(Term::Wait(1))?;
-    terms.push(Term::Wait(2))?;
+    terms.push(Term::Wait(seconds(1)))?;
+    terms.push(Term::Wait(seconds(2)))?;
     Ok(terms)
 }
 
 /// The event expressions by name, over three waits where they have several parts.
 fn term(alloc: Global, name: &str) -> Result<Term> {
     match name {
-        "wait" => Ok(Term::Wait(0)),
+        "wait" => Ok(Term::Wait(seconds(0))),
         "followed" => Ok(Term::Followed(wait(alloc)?, waits(alloc)?)),
         "or" => Ok(Term::Or(wait(alloc)?, waits(alloc)?)),
         "xor" => Ok(Term::Xor(wait(alloc)?, waits(alloc)?)),
@@ -154,7 +161,7 @@ fn term(alloc: Global, name: &str) -> Result<Term> {
         "all" => Ok(Term::All(wait(alloc)?)),
         "not" => Ok(Term::Not(wait(alloc)?)),
         "group" => Ok(Term::Group(wait(alloc)?, None)),
-        "within" => Ok(Term::Group(wait(alloc)?, Some(1))),
+        "within" => Ok(Term::Group(wait(alloc)?, Some(seconds(1)))),
         _ => bail!("no event expression: {name}"),
     }
 }

@@ -6,7 +6,7 @@ ghost use Rattle.value_steps.specs.Orderly.{AreOrderly, AreOrderlyPairs, IsOrder
 
 use epl_values::{Items, List, Pair, Pairs, Text, Value, Values};
 use std::alloc::{AllocError, Global};
-use typed_program::{Term, Terms};
+use typed_program::{Duration, Term, Terms};
 
 /// A value of its own, in which each listener is the empty one.
 #[cycle(emptied)]
@@ -86,8 +86,8 @@ pub fn taken_along(
     Ok(along)
 }
 
-fn deadline_leaves(within: Option<u16>) -> u64
-    ensures { result ≡ deadline_leaves within }
+fn deadline_leaves(within: &Option<Duration>) -> u64
+    ensures { result ≡ deadline_leaves within.now }
 {
     match within {
         Some(_) => 1,
@@ -108,7 +108,7 @@ pub fn starting(term: &Term) -> u64
         Term::All(part) => starting(part.get()),
         Term::Not(part) => starting(part.get()),
         Term::Group(part, within) => {
-            deadline_leaves(*within).saturating_add(starting(part.get()))
+            deadline_leaves(within).saturating_add(starting(part.get()))
         }
         Term::Wait(_) => 1,
         Term::Template(_) => 1,
