@@ -54,9 +54,9 @@ template_there : (around : Around) (t : Term) (x : TemplateShape) → fits_term 
 template_there around t x so h = in_all around (out-Term t) x (sym (fold_out-Term Bool (term_so around) t) ∙ so) h
 
 -- a bound name is an event of the template's type
-name_shape : (types : List EventShape) (operands : List (Option Shape)) (event : ℕ) (bs : List Local) (o : Option ℕ) (k : ℕ) (b : Local) → binds_so (record { types = types; operands = operands; bound = map (λ c. c.shape) bs }) event o ≡ true → o ≡ Some k → slice_get bs k ≡ Some b → shape.Event event ≡ b.shape
-name_shape types operands event bs None k b so is h = cc
-name_shape types operands event bs (Some n) k b so is h = same_is (shape.Event event) b.shape (subst (λ (s : Option Shape). if_known (same (shape.Event event)) s ≡ true) (slice_get-map (λ (c : Local). c.shape) bs n ∙ ap (option_map (λ (c : Local). c.shape)) (ap (slice_get bs) (same_Some n k is) ∙ h)) so)
+name_shape : (types : List EventShape) (operands : List (Option Shape)) (tenths : List Bool) (event : ℕ) (bs : List Local) (o : Option ℕ) (k : ℕ) (b : Local) → binds_so (record { types = types; operands = operands; tenths = tenths; bound = map (λ c. c.shape) bs }) event o ≡ true → o ≡ Some k → slice_get bs k ≡ Some b → shape.Event event ≡ b.shape
+name_shape types operands tenths event bs None k b so is h = cc
+name_shape types operands tenths event bs (Some n) k b so is h = same_is (shape.Event event) b.shape (subst (λ (s : Option Shape). if_known (same (shape.Event event)) s ≡ true) (slice_get-map (λ (c : Local). c.shape) bs n ∙ ap (option_map (λ (c : Local). c.shape)) (ap (slice_get bs) (same_Some n k is) ∙ h)) so)
 
 -- an event that fits a template is of its type
 event_is : (types : List EventShape) (n : ℕ) (v : Value) (l : Value-F Value Pair) → is_of_type n (type_in l) ≡ true → IsEvent types v l → Fit types v (shape.Event n)
@@ -162,7 +162,7 @@ module _ (program : Program) (typed : Typed program) where
       let around = site_around program site in
       let binds = (and_parts _ (binds_so around t.event t.binds) (and_parts _ _ (template_there around site.term t parts.0 is)).0).1 in
       fit_append program.types captured (bound_from program.types t.binds (event_of s) 0 site.bound) (map (λ (c : Local). c.shape) site.captured) (map (λ (b : Local). b.shape) site.bound) held
-      (bound_fits (event_of s) t.binds 0 site.bound parts.1 (λ k b at there. let same : 0 + k ≡ k = omega arith in subst (Fit program.types (event_of s)) (name_shape program.types around.operands t.event site.bound t.binds k b binds (at ∙ ap Some same) there) (stimulus_is program.types t s fit event)))
+      (bound_fits (event_of s) t.binds 0 site.bound parts.1 (λ k b at there. let same : 0 + k ≡ k = omega arith in subst (Fit program.types (event_of s)) (name_shape program.types around.operands around.tenths t.event site.bound t.binds k b binds (at ∙ ap Some same) there) (stimulus_is program.types t s fit event)))
 
   -- the callback of a listener may run in its instance, with what it took along and the event
   pub callback_may : (begun : ℕ) (instances : List Instance) (l : Listener) (site : Site) (t : TemplateShape) (s : Stimulus) (i : Instance) → ListenerFits program begun instances l → slice_get program.sites l.site ≡ Some site → template_of site.term ≡ Some t → completes t s ≡ true → StimulusFits program s → find (is_instance l.instance) instances ≡ Some i → MayRun program (body_number program l.site) (callback_locals program.types t site l.captured (event_of s)) i
