@@ -288,12 +288,7 @@ impl<
 
     /// The values of expressions, from left to right, as the elements of a sequence.
     #[cycle(walk)]
-    fn elements(
-        &self,
-        es: &[TypedExpr],
-        globals: &mut Values,
-        host: &mut H,
-    ) -> Result<Items, Stop>
+    fn elements(&self, es: &[TypedExpr], globals: &mut Values, host: &mut H) -> Result<Items, Stop>
         requires ready { IsReady H.told self.now.program.now self.now.depth (F.pre self.now.call) (F.post self.now.call) self.now.locals.now }
         requires globals { AreOrderly globals.old }
         ensures { Walked (H.told host.old) globals.old (H.told host.new) globals.new self.now.locals.now (all (map (value_by self.now.program.now self.now.depth) es.now)) AreOrderly result }
