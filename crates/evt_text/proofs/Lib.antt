@@ -6,6 +6,7 @@ pub mod Events
 pub mod FewTypes
 pub mod Found
 pub mod Fronts
+pub mod Halving
 pub mod Known
 pub mod Lists
 pub mod Nested

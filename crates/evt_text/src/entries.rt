@@ -19,23 +19,34 @@ fn is_key(pair: &Pair, key: &Value) -> bool
     order(&pair.key, key) == Ordering::Equal
 }
 
-fn count_before(pairs: &[Pair], key: &Value) -> usize
+/// How many keys are lesser; they stand in front.
+fn count_before(pairs: &Pairs, key: &Value) -> usize
     requires { KeysAscend pairs.now }
     ensures count { result ≡ count_before key.now pairs.now }
     ensures within { result ≤ length pairs.now }
 {
-    pairs.partition_point(|pair| is_before(pair, key))
+    let mut low = 0;
+    let mut high = pairs.len();
+    while low < high {
+        let middle = low + (high - low) / 2;
+        if is_before(pairs.get(middle), key) {
+            low = middle + 1;
+        } else {
+            high = middle;
+        }
+    }
+    low
 }
 
 /// The place of a key, or that where it would be put.
-fn place_in(pairs: &[Pair], key: &Value) -> Result<usize, usize>
+fn place_in(pairs: &Pairs, key: &Value) -> Result<usize, usize>
     requires { KeysAscend pairs.now }
     ensures value { result ≡ place_in key.now pairs.now }
     ensures there { IfOk result (λ at. at < length pairs.now) }
     ensures between { IfErr result (λ at. at ≤ length pairs.now) }
 {
     let at = count_before(pairs, key);
-    if at < pairs.len() && is_key(&pairs[at], key) {
+    if at < pairs.len() && is_key(pairs.get(at), key) {
         Ok(at)
     } else {
         Err(at)
@@ -48,7 +59,7 @@ pub fn put_entry(pairs: &mut Pairs, key: Value, value: Value) -> Result<(), Allo
     ensures put { OnOk result (pairs.new ≡ with_entry key value pairs.old) }
     ensures order { OnOk result (KeysAscend pairs.new) }
 {
-    match place_in(pairs.as_slice(), &key) {
+    match place_in(pairs, &key) {
         Ok(at) => {
             let Pair { key, value: _old } = pairs.remove(at);
             pairs.insert(at, Pair { key, value })

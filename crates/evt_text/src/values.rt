@@ -6,7 +6,7 @@ use crate::TextFault;
 use crate::entries::put_entry;
 use crate::scanner::Scanner;
 use epl_values::{
-    EventShape, EventShapes, Field, List, Ordered, Pair, Pairs, Shape, Value, Values,
+    EventShape, EventShapes, Field, Items, List, Ordered, Pair, Pairs, Shape, Value, Values,
 };
 use std::alloc::Global;
 
@@ -48,11 +48,11 @@ fn items(
     element: &Shape,
     types: &EventShapes,
     limit: usize,
-) -> Result<Values, TextFault>
+) -> Result<Items, TextFault>
     ensures { Reads result scanner.new.rest.now (list_at (value_from limit types.now (form_of element.now)) 91 93 limit scanner.old.rest.now) }
 {
     scanner.opens('[')?;
-    let mut values = List::new(alloc);
+    let mut values = Items::new(alloc);
     let mut first = true;
     'items: for _turn in 0..limit {
         if scanner.closes(']') {
