@@ -20,10 +20,10 @@ fault_named texts names fault.Memory told few = record {}
 
 -- what causes a fault in a named file
 told_fault : (texts names : List (List ℕ)) (name : List ℕ) (why : ProgramFault) → TellsProgram texts (Err why) → name_at names (file_of why) ≡ Some name → ProgramTold texts names (Err (refusal.Program name why))
-told_fault texts names name (fault.Lex file spot) told at = (at, told.0, told.1)
-told_fault texts names name (fault.Syntax file spot) told at = (at, told.0, told.1)
-told_fault texts names name (fault.Typing code file spot) told at = (at, told.0, told.1)
-told_fault texts names name (fault.Unbuilt file spot) told at = (at, told.0, told.1)
+told_fault texts names name (fault.Lex file spot) told at = (at, told.0, told.1, told.2)
+told_fault texts names name (fault.Syntax file spot) told at = (at, told.0, told.1, told.2)
+told_fault texts names name (fault.Typing code file spot) told at = (at, told.0, told.1, told.2)
+told_fault texts names name (fault.Unbuilt file spot) told at = (at, told.0, told.1, told.2)
 told_fault texts names name fault.Memory told at = absurd (none-some _ at)
 
 -- what is told of texts without a program is told of their refusal

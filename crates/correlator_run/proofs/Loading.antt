@@ -81,7 +81,7 @@ module _ {P : Type 0} (view : P → Named × (Program × List Item)) (words : Li
       go (refusal.Missing name) t = absurd t
       go (refusal.Read name) t = absurd t
       go (refusal.TooLong name) t = absurd t
-      go (refusal.Program name fault) t = (n, named, record { events = events; texts = texts; read = all_read files now n events texts first same second; whose = t.0; cause = t.1; none = t.2 })
+      go (refusal.Program name fault) t = (n, named, record { events = events; texts = texts; read = all_read files now n events texts first same second; whose = t.0; cause = t.1; only_cause = t.3; none = t.2 })
       go (refusal.Events name line) t = absurd t
       go refusal.Memory t = tt
 

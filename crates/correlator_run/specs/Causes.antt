@@ -6,7 +6,7 @@ use Rattle.record_book.specs.declared.item.Item.{Item}
 use Rattle.evt_reader.specs.Files.{AreItems, IsRefusedLine}
 use Rattle.program_reader.specs.declared.fault.ProgramFault.{ProgramFault}
 use Rattle.program_reader.specs.declared.fault.ProgramFault.TheVariants as fault
-use Rattle.program_reader.specs.Programs.{IsProgram, IsCause as IsProgramCause}
+use Rattle.program_reader.specs.Programs.{IsProgram, IsCause as IsProgramCause, IsOnlyCause as IsOnlyProgramCause}
 use Rattle.run_face.specs.Words.{Named, named_files}
 use Rattle.correlator_run.specs.declared.refusal.Refusal.{Refusal}
 use Rattle.correlator_run.specs.declared.refusal.Refusal.TheVariants as refusal
@@ -53,13 +53,14 @@ abbrev pub name_at : List (List ℕ) → Option ℕ → Option (List ℕ)
 name_at names None = None
 name_at names (Some place) = slice_get names place
 
--- all files were read, and the program files have no program, for this cause in the file of this name
+-- all files were read, and the program files have no program, for this cause alone, in the file of this name
 pub record HasNoProgram (files : Option Files) (named : Named) (name : List ℕ) (why : ProgramFault) : Type 0 where
   pub events : List ℕ
   pub texts : List (List ℕ)
   pub read : AreRead files (wanted_of named) (events ∷ texts)
   pub whose : name_at named.programs (file_of why) ≡ Some name
   pub cause : IsProgramCause texts why
+  pub only_cause : IsOnlyProgramCause texts why
   pub none : (p : Program) → IsProgram texts p → ⊥
 
 -- all files were read, this is the only program, and the event file has this line as the only one that is refused first

@@ -7,7 +7,7 @@ use Rattle.record_book.specs.declared.item.Item.{Item}
 use Rattle.record_book.specs.declared.record.Record.{Record}
 use Rattle.evt_reader.specs.Files.{AreItems, IsRefusedLine}
 use Rattle.program_reader.specs.declared.fault.ProgramFault.{ProgramFault}
-use Rattle.program_reader.specs.Programs.{IsProgram, IsCause as IsProgramCause}
+use Rattle.program_reader.specs.Programs.{IsProgram, IsCause as IsProgramCause, IsOnlyCause as IsOnlyProgramCause}
 use Rattle.run_face.specs.declared.words.RunWords.{RunWords}
 use Rattle.run_face.specs.Words.{Named, named_files, settings_of}
 use Rattle.correlator_run.specs.declared.refusal.Refusal.{Refusal}
@@ -56,10 +56,10 @@ IsRefusal names why (refusal.Program name cause) = (cause ≡ why) × (name_at n
 IsRefusal names why refusal.Memory = Unit {0}
 IsRefusal names why other = ⊥
 
--- the one program of these texts, or why there is none
+-- the one program of these texts, or why there is none, which is the only cause
 abbrev pub ProgramTold : List (List ℕ) → List (List ℕ) → Result Program Refusal → Type 0
 ProgramTold texts names (Ok p) = IsProgram texts p × ((other : Program) → IsProgram texts other → other ≡ p)
-ProgramTold texts names (Err (refusal.Program name why)) = (name_at names (file_of why) ≡ Some name) × IsProgramCause texts why × ((p : Program) → IsProgram texts p → ⊥)
+ProgramTold texts names (Err (refusal.Program name why)) = (name_at names (file_of why) ≡ Some name) × IsProgramCause texts why × ((p : Program) → IsProgram texts p → ⊥) × IsOnlyProgramCause texts why
 ProgramTold texts names (Err refusal.Memory) = Unit {0}
 ProgramTold texts names (Err why) = ⊥
 

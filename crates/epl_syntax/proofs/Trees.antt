@@ -76,7 +76,7 @@ take_more (b ∷ bs) zero bytes at = ap (λ (x : List ℕ). x ∷ []) (same_Some
 take_more (b ∷ bs) (suc place) bytes at = ap (λ (xs : List (List ℕ)). b ∷ xs) (take_more bs place bytes at)
 
 -- each of files with trees has one
-tree_there : (texts : List (List ℕ)) (trees : List Tree) (place : ℕ) (bytes : List ℕ) → AreTrees texts trees → slice_get texts place ≡ Some bytes → (tree : Tree) × IsTree bytes tree
+pub tree_there : (texts : List (List ℕ)) (trees : List Tree) (place : ℕ) (bytes : List ℕ) → AreTrees texts trees → slice_get texts place ≡ Some bytes → (tree : Tree) × IsTree bytes tree
 tree_there [] trees place bytes k at = absurd (none-some _ at)
 tree_there (b ∷ bs) [] place bytes k at = absurd k
 tree_there (b ∷ bs) (t ∷ ts) zero bytes k at = (t, subst (λ (x : List ℕ). IsTree x t) (same_Some _ _ at) k.0)
@@ -95,15 +95,15 @@ module _ (texts : List (List ℕ)) (place : ℕ) (bytes : List ℕ) (at : slice_
       subst (λ n. AreOnlyTrees (take n texts) (trees ++ tree ∷ [])) next
       (subst (λ (ts : List (List ℕ)). AreOnlyTrees ts (trees ++ tree ∷ [])) (sym (take_more texts place bytes at)) (only_more (take place texts) trees bytes tree place before t))
 
-  first_without : (Says : List ℕ → Type 0) → Says bytes → IsFirstWithout texts place Says
-  first_without Says says = record { bytes = bytes; there = at; trees = trees; before = before.0; says = says }
+  first_without : (Says : List ℕ → Type 0) → HasNoTree bytes → Says bytes → IsFirstWithout texts place Says
+  first_without Says none says = record { bytes = bytes; there = at; trees = trees; before = before.0; none = none; says = says }
 
   none_left : HasNoTree bytes → HaveNoTrees texts
   none_left none others k = let t = tree_there texts others place bytes k at in none t.0 t.1
 
   pub files_stop : (why : SyntaxFault) → TreeTold place bytes (Err why) → TreesTold texts (Err why)
-  files_stop (Lex file spot) t = (subst (λ n. IsFirstWithout texts n (λ b. IsUnread b spot)) (sym t.0) (first_without (λ b. IsUnread b spot) t.1), none_left t.2)
-  files_stop (Syntax file spot) t = (subst (λ n. IsFirstWithout texts n (λ b. IsUnparsed b spot)) (sym t.0) (first_without (λ b. IsUnparsed b spot) t.1), none_left t.2)
+  files_stop (Lex file spot) t = (subst (λ n. IsFirstWithout texts n (λ b. IsUnread b spot)) (sym t.0) (first_without (λ b. IsUnread b spot) t.2 t.1), none_left t.2)
+  files_stop (Syntax file spot) t = (subst (λ n. IsFirstWithout texts n (λ b. IsUnparsed b spot)) (sym t.0) (first_without (λ b. IsUnparsed b spot) t.2 t.1), none_left t.2)
   files_stop Memory t = tt
 
 pub trees_err : (texts : List (List ℕ)) (e : SyntaxFault) (r : Result (List Tree) SyntaxFault) → IsErrAnd r (λ x. x ≡ e) → TreesTold texts (Err e) → TreesTold texts r

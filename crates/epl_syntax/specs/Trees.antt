@@ -35,12 +35,16 @@ pub record IsUnparsed (bytes : List ℕ) (spot : Spot) : Type 0 where
   pub lexed : AreTokens bytes tokens
   pub fault : IsSyntaxFault tokens spot
 
+abbrev pub HasNoTree : List ℕ → Type 0
+HasNoTree bytes = (other : Tree) → IsTree bytes other → ⊥
+
 -- the first file without a tree, with what is said of its bytes
 pub record IsFirstWithout (texts : List (List ℕ)) (file : ℕ) (Says : List ℕ → Type 0) : Type 0 where
   pub bytes : List ℕ
   pub there : slice_get texts file ≡ Some bytes
   pub trees : List Tree
   pub before : AreTrees (take file texts) trees
+  pub none : HasNoTree bytes
   pub says : Says bytes
 
 -- the only trees of files
@@ -58,9 +62,6 @@ TreesTold texts (Err (Syntax file spot)) = IsFirstWithout texts file (λ bytes. 
 TreesTold texts (Err Memory) = Unit {0}
 
 -- ---- one file
-
-abbrev pub HasNoTree : List ℕ → Type 0
-HasNoTree bytes = (other : Tree) → IsTree bytes other → ⊥
 
 -- the only tokens of the bytes of the file at this place, or where they have none
 abbrev pub TokensTold : ℕ → List ℕ → Result (List Token) SyntaxFault → Type 0

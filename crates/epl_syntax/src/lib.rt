@@ -15,6 +15,9 @@ pub use events::event_expression;
 pub use expressions::expression;
 pub use fault::{ParseFault, SyntaxFault};
 pub use files::units;
-pub use laws::{fault_has_one_place, tokens_are_few, tokens_end_once};
+pub use laws::{
+    fault_has_one_place, files_have_one_fault, files_have_one_list_of_trees,
+    syntax_fault_has_one_place, tokens_are_few, tokens_end_once,
+};
 pub use lexing::{tokens_of, tokens_of_bytes};
 pub use programs::unit;

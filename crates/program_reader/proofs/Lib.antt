@@ -1,4 +1,5 @@
 pub mod Only
+pub mod Causes
 pub mod Telling
 pub mod Named
 pub mod Types

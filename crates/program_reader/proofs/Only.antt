@@ -1,6 +1,6 @@
--- A program that is accepted is the only one of its files, and has no fault.
+-- A program that is accepted is the only one of its files, and has no fault; files have one first fault.
 use Rattle.std.proofs.Common.{◌≡◌, ℕ, List, [], map, sym, ◌∙◌, ap, Some, None, Option, inl, inr}
-use Rattle.std.proofs.lemmas.Option.{none-some}
+use Rattle.std.proofs.lemmas.Option.{none-some, same_Some}
 use mathlib.Core.HLevel.{is_prop→PathP}
 use Rattle.std.specs.Coded.{codes}
 use Rattle.epl_tree.specs.declared.unit.Unit.{Unit as File}
@@ -45,3 +45,11 @@ pub fault_apart : (units : List File) (f : CheckFault) (p : Program) → IsFault
 fault_apart units f p (inl h) k = no_first _ f k.declared h
 fault_apart units f p (inr h) k =
     no_first (members_faults h.table units) f (ap (λ (t : Table). members_faults t units) (table_only units h.table k.table h.is_table k.is_table) ∙ k.faultless) h.told
+
+-- the first fault of files is one
+pub fault_only : (units : List File) (f g : CheckFault) → IsFault units f → IsFault units g → f ≡ g
+fault_only units f g (inl h) (inl k) = same_Some _ _ (sym h ∙ k)
+fault_only units f g (inl h) (inr k) = absurd (no_first _ f k.declared h)
+fault_only units f g (inr h) (inl k) = absurd (no_first _ g h.declared k)
+fault_only units f g (inr h) (inr k) =
+    same_Some _ _ (sym h.told ∙ ap (λ (t : Table). first_of (members_faults t units)) (table_only units h.table k.table h.is_table k.is_table) ∙ k.told)

@@ -43,7 +43,15 @@ abbrev pub HasNone : List (List ℕ) → ProgramFault → Type 0
 HasNone texts Memory = Unit {0}
 HasNone texts why = (q : Program) → IsProgram texts q → ⊥
 
--- what an answer says of the files: the only program of them, or why there is none
+-- no fault but this one is a cause; want of memory aside
+abbrev pub IsOnlyCause : List (List ℕ) → ProgramFault → Type 0
+IsOnlyCause texts why = (other : ProgramFault) → (other ≡ Memory → ⊥) → IsCause texts other → other ≡ why
+
+abbrev pub HasOneCause : List (List ℕ) → ProgramFault → Type 0
+HasOneCause texts Memory = Unit {0}
+HasOneCause texts why = IsOnlyCause texts why
+
+-- what an answer says of the files: the only program of them, or why there is none, which is the only cause
 abbrev pub TellsProgram : List (List ℕ) → Result Program ProgramFault → Type 0
 TellsProgram texts (Ok p) = IsProgram texts p × ((q : Program) → IsProgram texts q → q ≡ p)
-TellsProgram texts (Err why) = IsCause texts why × HasNone texts why
+TellsProgram texts (Err why) = IsCause texts why × HasNone texts why × HasOneCause texts why

@@ -1,5 +1,5 @@
 use Rattle.program_reader.proofs.Laws.{told_types, told_monitors, told_typed}
-use Rattle.program_reader.proofs.Telling.{program_told}
+use Rattle.program_reader.proofs.Telling.{program_told, refused_told}
 use Rattle.program_reader.proofs.program.program_from.Goals as goal
 
 pub returns-clause-program : goal.returns-clause-program
@@ -13,3 +13,6 @@ returns-clause-types c = told_types c.args.texts.now c.in_ok-units.units c.progr
 
 pub returns-clause-monitors : goal.returns-clause-monitors
 returns-clause-monitors c = told_monitors c.in_ok-units.units c.program_of.result c.program_of.ensures
+
+pub returns-in_err-units-clause-program : goal.returns-in_err-units-clause-program
+returns-in_err-units-clause-program c = refused_told c.args.texts.now _ _ c.from_residual.ensures.1 c.in_err-units.ensures.told
