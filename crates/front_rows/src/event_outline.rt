@@ -2,131 +2,94 @@
 
 use crate::expr_outline::{comparison_sign, put_expr};
 use epl_tree::{
-    Constraint, ConstraintNode, Constraints, Duration, DurationNode, EventExpr, EventExprs,
-    EventNode, Mode, Range, Template, TemplateClause,
+    Constraint, ConstraintNode, Duration, DurationNode, EventExpr, EventExprs, EventNode, Mode,
+    Range, Template, TemplateClause,
 };
 use std::alloc::AllocError;
 
 /// An event expression.
 #[cycle(events)]
 pub fn put_event(out: &mut String, tree: &EventExpr) -> Result<(), AllocError> {
-    let node = &tree.node;
-    out.push_str(opening(node))?;
-    match node {
-        EventNode::Followed(first, rest)
-        | EventNode::Or(first, rest)
-        | EventNode::Xor(first, rest)
-        | EventNode::And(first, rest) => {
-            put_event(out, first.get())?;
-            put_rest(out, chain_word(node), rest)?;
+    match &tree.node {
+        EventNode::Followed(first, rest) => put_chain(out, first.get(), " -> ", rest),
+        EventNode::Or(first, rest) => put_chain(out, first.get(), " or ", rest),
+        EventNode::Xor(first, rest) => put_chain(out, first.get(), " xor ", rest),
+        EventNode::And(first, rest) => put_chain(out, first.get(), " and ", rest),
+        EventNode::All(operand) => {
+            out.push_str("(all ")?;
+            put_event(out, operand.get())?;
+            out.push_str(")")
         }
-        EventNode::All(operand) | EventNode::Not(operand) => put_event(out, operand.get())?,
+        EventNode::Not(operand) => {
+            out.push_str("(not ")?;
+            put_event(out, operand.get())?;
+            out.push_str(")")
+        }
         EventNode::Group(inner, within) => {
+            out.push_str("(group ")?;
             put_event(out, inner.get())?;
-            put_within(out, within)?;
+            if let Some(duration) = within {
+                put_duration(out, " within ", duration)?;
+            }
+            out.push_str(")")
         }
-        EventNode::Wait(duration) => put_duration(out, duration)?,
-        EventNode::Template(template) => put_template(out, template)?,
-    }
-    out.push_str(closing(node))
-}
-
-/// What stands between the operands of a chain.
-fn chain_word(node: &EventNode) -> &'static str {
-    match node {
-        EventNode::Followed(_, _) => " -> ",
-        EventNode::Or(_, _) => " or ",
-        EventNode::Xor(_, _) => " xor ",
-        _ => " and ",
-    }
-}
-
-fn opening(node: &EventNode) -> &'static str {
-    match node {
-        EventNode::All(_) => "(all ",
-        EventNode::Not(_) => "(not ",
-        EventNode::Group(_, _) => "(group ",
-        EventNode::Wait(_) => "wait(",
-        EventNode::Template(_) => "",
-        _ => "(",
-    }
-}
-
-fn closing(node: &EventNode) -> &'static str {
-    match node {
-        EventNode::Template(_) => "",
-        _ => ")",
+        EventNode::Wait(duration) => {
+            put_duration(out, "wait(", duration)?;
+            out.push_str(")")
+        }
+        EventNode::Template(template) => put_template(out, template),
     }
 }
 
 #[cycle(events)]
-fn put_rest(out: &mut String, operator: &str, rest: &EventExprs) -> Result<(), AllocError> {
+fn put_chain(
+    out: &mut String,
+    first: &EventExpr,
+    operator: &str,
+    rest: &EventExprs,
+) -> Result<(), AllocError> {
+    out.push_str("(")?;
+    put_event(out, first)?;
     for tree in rest.as_slice() {
         out.push_str(operator)?;
         put_event(out, tree)?;
     }
-    Ok(())
+    out.push_str(")")
 }
 
-fn put_within(out: &mut String, within: &Option<Duration>) -> Result<(), AllocError> {
-    match within {
-        None => Ok(()),
-        Some(duration) => {
-            out.push_str(" within ")?;
-            put_duration(out, duration)
-        }
-    }
-}
-
-fn put_duration(out: &mut String, duration: &Duration) -> Result<(), AllocError> {
+fn put_duration(out: &mut String, before: &str, duration: &Duration) -> Result<(), AllocError> {
+    out.push_str(before)?;
     match &duration.node {
         DurationNode::Decimal(digits) => out.push_str(digits.as_str()),
         DurationNode::Seconds(seconds) => put_expr(out, seconds),
     }
 }
 
-fn mode_word(mode: Mode) -> &'static str {
-    match mode {
+fn put_template(out: &mut String, template: &Template) -> Result<(), AllocError> {
+    out.push_str(match template.mode {
         Mode::Ordinary => "",
         Mode::Unmatched => "unmatched ",
         Mode::Completed => "completed ",
-    }
-}
-
-fn put_template(out: &mut String, template: &Template) -> Result<(), AllocError> {
-    out.push_str(mode_word(template.mode))?;
+    })?;
     out.push_str(template.event.as_str())?;
-    put_constraints(out, &template.constraints)?;
+    out.push_str("(")?;
+    let mut sign = "";
+    for constraint in template.constraints.as_slice() {
+        out.push_str(sign)?;
+        put_constraint(out, constraint)?;
+        sign = ", ";
+    }
+    out.push_str(")")?;
     for clause in template.clauses.as_slice() {
-        put_clause(out, clause)?;
+        match clause {
+            TemplateClause::As(name) => {
+                out.push_str(" as ")?;
+                out.push_str(name.text.as_str())?;
+            }
+            TemplateClause::Within(duration) => put_duration(out, " within ", duration)?,
+        }
     }
     Ok(())
-}
-
-fn put_clause(out: &mut String, clause: &TemplateClause) -> Result<(), AllocError> {
-    match clause {
-        TemplateClause::As(name) => {
-            out.push_str(" as ")?;
-            out.push_str(name.text.as_str())
-        }
-        TemplateClause::Within(duration) => {
-            out.push_str(" within ")?;
-            put_duration(out, duration)
-        }
-    }
-}
-
-fn put_constraints(out: &mut String, constraints: &Constraints) -> Result<(), AllocError> {
-    out.push_str("(")?;
-    let mut is_first = true;
-    for constraint in constraints.as_slice() {
-        if !is_first {
-            out.push_str(", ")?;
-        }
-        is_first = false;
-        put_constraint(out, constraint)?;
-    }
-    out.push_str(")")
 }
 
 fn put_constraint(out: &mut String, constraint: &Constraint) -> Result<(), AllocError> {

@@ -1,21 +1,18 @@
 //! Expressions on one line. Each node of operators stands in parentheses, and each pair of written ones behind `group`.
 
 use crate::type_outline::put_type;
-use epl_tree::{
-    Comparison, Entries, Entry, Expr, ExprNode, Exprs, Link, Links, Operator, Suffix, SuffixNode,
-    Suffixes,
-};
+use epl_tree::{Comparison, Entries, Expr, ExprNode, Exprs, Links, Operator, SuffixNode, Suffixes};
 use std::alloc::AllocError;
 
 /// An expression.
 #[cycle(expressions)]
 pub fn put_expr(out: &mut String, tree: &Expr) -> Result<(), AllocError> {
-    let node = &tree.node;
-    out.push_str(opening(node))?;
-    match node {
+    let (open, between, close) = signs(&tree.node);
+    out.push_str(open)?;
+    match &tree.node {
         ExprNode::Or(first, rest) | ExprNode::Xor(first, rest) | ExprNode::And(first, rest) => {
             put_expr(out, first.get())?;
-            put_rest(out, chain_word(node), rest)?;
+            put_exprs(out, between, between, rest)?;
         }
         ExprNode::Compare(left, comparison, right) => {
             put_expr(out, left.get())?;
@@ -35,57 +32,40 @@ pub fn put_expr(out: &mut String, tree: &Expr) -> Result<(), AllocError> {
         }
         ExprNode::Call(_, args) | ExprNode::Context(args) => {
             out.push_str("(")?;
-            put_items(out, args)?;
-            out.push_str(")")?;
+            put_exprs(out, "", ", ", args)?;
         }
-        ExprNode::Sequence(items) => put_items(out, items)?,
+        ExprNode::Sequence(items) => put_exprs(out, "", ", ", items)?,
         ExprNode::Dictionary(entries) => put_entries(out, entries)?,
         ExprNode::New(shape) => put_type(out, shape)?,
         ExprNode::Quoted(text) => put_quoted(out, text.as_str())?,
         _ => {}
     }
-    out.push_str(closing(node))
+    out.push_str(close)
 }
 
-/// What stands between the operands of a chain of truths.
-fn chain_word(node: &ExprNode) -> &'static str {
+/// What stands before a node's parts, between the operands of a chain, and behind the parts; the whole of a node without parts.
+fn signs(node: &ExprNode) -> (&str, &str, &str) {
     match node {
-        ExprNode::Or(_, _) => " or ",
-        ExprNode::Xor(_, _) => " xor ",
-        _ => " and ",
-    }
-}
-
-/// What stands before a node's parts, and the whole of a node without parts.
-fn opening(node: &ExprNode) -> &str {
-    match node {
-        ExprNode::Not(_) => "(not ",
-        ExprNode::Minus(_) => "(- ",
-        ExprNode::Group(_) => "(group ",
-        ExprNode::Sequence(_) => "[",
-        ExprNode::Dictionary(_) => "{",
-        ExprNode::New(_) => "new ",
-        ExprNode::Context(_) => "context",
-        ExprNode::ContextCurrent => "context.current()",
-        ExprNode::Integer(digits) => digits.as_str(),
-        ExprNode::Boolean(true) => "true",
-        ExprNode::Boolean(false) => "false",
-        ExprNode::Name(name) => name.as_str(),
-        ExprNode::Call(name, _) => name.as_str(),
-        ExprNode::Quoted(_) | ExprNode::Postfix(_, _) => "",
-        _ => "(",
-    }
-}
-
-/// What stands behind a node's parts.
-fn closing(node: &ExprNode) -> &'static str {
-    match node {
-        ExprNode::Or(_, _) | ExprNode::Xor(_, _) | ExprNode::And(_, _) => ")",
-        ExprNode::Compare(_, _, _) | ExprNode::Sum(_, _) | ExprNode::Product(_, _) => ")",
-        ExprNode::Not(_) | ExprNode::Minus(_) | ExprNode::Group(_) => ")",
-        ExprNode::Sequence(_) => "]",
-        ExprNode::Dictionary(_) => "}",
-        _ => "",
+        ExprNode::Or(_, _) => ("(", " or ", ")"),
+        ExprNode::Xor(_, _) => ("(", " xor ", ")"),
+        ExprNode::And(_, _) => ("(", " and ", ")"),
+        ExprNode::Compare(_, _, _) | ExprNode::Sum(_, _) | ExprNode::Product(_, _) => (
+            "(", "", ")",
+        ),
+        ExprNode::Not(_) => ("(not ", "", ")"),
+        ExprNode::Minus(_) => ("(- ", "", ")"),
+        ExprNode::Group(_) => ("(group ", "", ")"),
+        ExprNode::Sequence(_) => ("[", "", "]"),
+        ExprNode::Dictionary(_) => ("{", "", "}"),
+        ExprNode::New(_) => ("new ", "", ""),
+        ExprNode::Context(_) => ("context", "", ")"),
+        ExprNode::Call(name, _) => (name.as_str(), "", ")"),
+        ExprNode::ContextCurrent => ("context.current()", "", ""),
+        ExprNode::Integer(digits) => (digits.as_str(), "", ""),
+        ExprNode::Boolean(true) => ("true", "", ""),
+        ExprNode::Boolean(false) => ("false", "", ""),
+        ExprNode::Name(name) => (name.as_str(), "", ""),
+        ExprNode::Quoted(_) | ExprNode::Postfix(_, _) => ("", "", ""),
     }
 }
 
@@ -101,107 +81,73 @@ pub fn comparison_sign(comparison: Comparison) -> &'static str {
     }
 }
 
-fn operator_sign(operator: Operator) -> &'static str {
-    match operator {
-        Operator::Add => " + ",
-        Operator::Subtract => " - ",
-        Operator::Multiply => " * ",
-        Operator::Divide => " / ",
-        Operator::Remainder => " % ",
-    }
-}
-
-/// The operands behind the first one, each behind its operator.
+/// Expressions, the first of them behind one sign and each other one behind another.
 #[cycle(expressions)]
-fn put_rest(out: &mut String, operator: &str, rest: &Exprs) -> Result<(), AllocError> {
-    for tree in rest.as_slice() {
-        out.push_str(operator)?;
-        put_expr(out, tree)?;
-    }
-    Ok(())
-}
-
-#[cycle(expressions)]
-fn put_items(out: &mut String, items: &Exprs) -> Result<(), AllocError> {
-    let mut is_first = true;
+pub fn put_exprs(
+    out: &mut String,
+    before: &str,
+    between: &str,
+    items: &Exprs,
+) -> Result<(), AllocError> {
+    let mut sign = before;
     for tree in items.as_slice() {
-        if !is_first {
-            out.push_str(", ")?;
-        }
-        is_first = false;
+        out.push_str(sign)?;
         put_expr(out, tree)?;
+        sign = between;
     }
     Ok(())
-}
-
-/// Arguments in their parentheses.
-pub fn put_args(out: &mut String, args: &Exprs) -> Result<(), AllocError> {
-    out.push_str("(")?;
-    put_items(out, args)?;
-    out.push_str(")")
-}
-
-#[cycle(expressions)]
-fn put_link(out: &mut String, link: &Link) -> Result<(), AllocError> {
-    out.push_str(operator_sign(link.operator))?;
-    put_expr(out, &link.operand)
 }
 
 #[cycle(expressions)]
 fn put_links(out: &mut String, links: &Links) -> Result<(), AllocError> {
     for link in links.as_slice() {
-        put_link(out, link)?;
+        out.push_str(match link.operator {
+            Operator::Add => " + ",
+            Operator::Subtract => " - ",
+            Operator::Multiply => " * ",
+            Operator::Divide => " / ",
+            Operator::Remainder => " % ",
+        })?;
+        put_expr(out, &link.operand)?;
     }
     Ok(())
-}
-
-#[cycle(expressions)]
-fn put_suffix(out: &mut String, suffix: &Suffix) -> Result<(), AllocError> {
-    match &suffix.node {
-        SuffixNode::Field(name) => {
-            out.push_str(".")?;
-            out.push_str(name.as_str())
-        }
-        SuffixNode::Method(name, args) => {
-            out.push_str(".")?;
-            out.push_str(name.as_str())?;
-            out.push_str("(")?;
-            put_items(out, args)?;
-            out.push_str(")")
-        }
-        SuffixNode::Index(index) => {
-            out.push_str("[")?;
-            put_expr(out, index.get())?;
-            out.push_str("]")
-        }
-    }
 }
 
 /// What follows a primary.
 #[cycle(expressions)]
 pub fn put_suffixes(out: &mut String, suffixes: &Suffixes) -> Result<(), AllocError> {
     for suffix in suffixes.as_slice() {
-        put_suffix(out, suffix)?;
+        match &suffix.node {
+            SuffixNode::Field(name) => {
+                out.push_str(".")?;
+                out.push_str(name.as_str())?;
+            }
+            SuffixNode::Method(name, args) => {
+                out.push_str(".")?;
+                out.push_str(name.as_str())?;
+                out.push_str("(")?;
+                put_exprs(out, "", ", ", args)?;
+                out.push_str(")")?;
+            }
+            SuffixNode::Index(index) => {
+                out.push_str("[")?;
+                put_expr(out, index.get())?;
+                out.push_str("]")?;
+            }
+        }
     }
     Ok(())
 }
 
 #[cycle(expressions)]
-fn put_entry(out: &mut String, entry: &Entry) -> Result<(), AllocError> {
-    put_expr(out, &entry.key)?;
-    out.push_str(": ")?;
-    put_expr(out, &entry.value)
-}
-
-#[cycle(expressions)]
 fn put_entries(out: &mut String, entries: &Entries) -> Result<(), AllocError> {
-    let mut is_first = true;
+    let mut sign = "";
     for entry in entries.as_slice() {
-        if !is_first {
-            out.push_str(", ")?;
-        }
-        is_first = false;
-        put_entry(out, entry)?;
+        out.push_str(sign)?;
+        put_expr(out, &entry.key)?;
+        out.push_str(": ")?;
+        put_expr(out, &entry.value)?;
+        sign = ", ";
     }
     Ok(())
 }

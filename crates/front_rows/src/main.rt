@@ -6,7 +6,6 @@ mod draft;
 mod event_outline;
 mod expr_outline;
 mod outcome;
-mod parts;
 mod programs;
 mod stmt_outline;
 mod tokens;

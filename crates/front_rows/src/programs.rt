@@ -3,7 +3,8 @@
 ghost use Rattle.std.specs.Prelude.{◌<◌, ◌≤◌, length, IfOk};
 ghost use Rattle.std.specs.List.{AllByRecursion};
 
-use crate::outcome::refused_in;
+use crate::outcome::{put_number, refused, refused_in};
+use crate::unit_outline::put_unit;
 use anyhow::{Result, bail};
 use epl_syntax::{SyntaxFault, discard, units};
 use epl_tree::Units;
@@ -11,28 +12,51 @@ use epl_values::{Bytes, List};
 use program_check::check;
 use program_reader::{ProgramFault, program_from};
 use std::alloc::{AllocError, Global};
-use std::fmt::Write;
 use type_table::{CheckFault, Table, gather};
 use typed_program::Program;
 
 /// How many files a program has.
 const MOST_FILES: usize = 64;
 
-/// What is gathered of files: their event types with their numbers, and the heads of their monitors.
-pub fn table_told(alloc: Global, files: &[Vec<u8>]) -> Result<String> {
-    match gathered(alloc, files) {
-        Ok(table) => table_lines(alloc, &table),
-        Err(fault) => refusal_told(alloc, fault),
-    }
+/// The declarations of a program file; of a long file they aren't told.
+pub fn unit_told(alloc: Global, file: Vec<u8>, long: bool) -> Result<String> {
+    let files = vec![in alloc; file]?;
+    let trees = match units_of(alloc, files.as_slice()) {
+        Ok(trees) => trees,
+        Err(ProgramFault::Lex(_, spot)) => return refused(alloc, "lex", spot),
+        Err(ProgramFault::Syntax(_, spot)) => return refused(alloc, "syntax", spot),
+        Err(_) => bail!("out of memory"),
+    };
+    let told = units_outlined(alloc, &trees, long);
+    discard(trees);
+    told
 }
 
-fn gathered(alloc: Global, files: &[Vec<u8>]) -> Result<Table, ProgramFault> {
-    let trees = units_of(alloc, files)?;
+fn units_outlined(alloc: Global, trees: &Units, long: bool) -> Result<String> {
+    let mut out = String::new(alloc);
+    for tree in trees.as_slice() {
+        put_number(&mut out, "= ", tree.declarations.len())?;
+        out.push_str(" declared")?;
+        if !long {
+            out.push_str(":")?;
+            put_unit(&mut out, tree)?;
+        }
+        out.push_str("\n")?;
+    }
+    Ok(out)
+}
+
+/// What is gathered of files: their event types with their numbers, and the heads of their monitors.
+pub fn table_told(alloc: Global, files: &[Vec<u8>]) -> Result<String> {
+    let trees = match units_of(alloc, files) {
+        Ok(trees) => trees,
+        Err(fault) => return refusal_told(alloc, fault),
+    };
     let told = gather(alloc, &trees);
     discard(trees);
     match told {
-        Ok(table) => Ok(table),
-        Err(fault) => Err(typing(fault)),
+        Ok(table) => table_lines(alloc, &table),
+        Err(fault) => refusal_told(alloc, typing(fault)),
     }
 }
 
@@ -43,36 +67,53 @@ fn table_lines(alloc: Global, table: &Table) -> Result<String> {
         let Some(number) = table.event_of(name) else {
             bail!("a type without a number");
         };
-        writeln!(
-            out,
-            "= event {name}: number {number}, fields {}",
-            event.fields.len()
-        )?;
+        out.push_str("= event ")?;
+        out.push_str(name)?;
+        put_number(&mut out, ": number ", number)?;
+        put_number(&mut out, ", fields ", event.fields.len())?;
+        out.push_str("\n")?;
     }
     for monitor in table.monitors.as_slice() {
-        let name = monitor.name.as_str();
-        let globals = monitor.globals.len();
-        let actions = monitor.actions.len();
-        writeln!(
-            out,
-            "= monitor {name}: globals {globals}, actions {actions}"
-        )?;
+        out.push_str("= monitor ")?;
+        out.push_str(monitor.name.as_str())?;
+        put_number(&mut out, ": globals ", monitor.globals.len())?;
+        put_number(&mut out, ", actions ", monitor.actions.len())?;
+        out.push_str("\n")?;
     }
     Ok(out)
 }
 
 /// Whether files are accepted, and how many parts their program has, or their first fault.
 pub fn check_told(alloc: Global, files: &[Vec<u8>]) -> Result<String> {
-    told(alloc, checked(alloc, files))
-}
-
-fn checked(alloc: Global, files: &[Vec<u8>]) -> Result<Program, ProgramFault> {
-    let trees = units_of(alloc, files)?;
+    let trees = match units_of(alloc, files) {
+        Ok(trees) => trees,
+        Err(fault) => return refusal_told(alloc, fault),
+    };
     let told = check(alloc, &trees);
     discard(trees);
     match told {
-        Ok(program) => Ok(program),
-        Err(fault) => Err(typing(fault)),
+        Ok(program) => {
+            let parts = accepted(alloc, &program);
+            program_check::discard(program);
+            parts
+        }
+        Err(fault) => refusal_told(alloc, typing(fault)),
+    }
+}
+
+/// The same as `check_told`, as the reader of programs tells it.
+pub fn program_told(alloc: Global, files: &[Vec<u8>]) -> Result<String> {
+    let texts = texts_of(alloc, files)?;
+    if texts.len() > MOST_FILES {
+        bail!("too many files");
+    }
+    match program_from(alloc, &texts) {
+        Ok(program) => {
+            let parts = accepted(alloc, &program);
+            program_check::discard(program);
+            parts
+        }
+        Err(fault) => refusal_told(alloc, fault),
     }
 }
 
@@ -95,44 +136,13 @@ fn units_of(alloc: Global, files: &[Vec<u8>]) -> Result<Units, ProgramFault>
     }
     match units(alloc, &texts) {
         Ok(trees) => Ok(trees),
-        Err(fault) => Err(unread(fault)),
+        Err(SyntaxFault::Lex(file, spot)) => Err(ProgramFault::Lex(file, spot)),
+        Err(SyntaxFault::Syntax(file, spot)) => Err(ProgramFault::Syntax(file, spot)),
+        Err(SyntaxFault::Memory) => Err(ProgramFault::Memory),
     }
 }
 
-fn unread(fault: SyntaxFault) -> ProgramFault {
-    match fault {
-        SyntaxFault::Lex(file, spot) => ProgramFault::Lex(file, spot),
-        SyntaxFault::Syntax(file, spot) => ProgramFault::Syntax(file, spot),
-        SyntaxFault::Memory => ProgramFault::Memory,
-    }
-}
-
-/// The same as `check_told`, as the reader of programs tells it.
-pub fn program_told(alloc: Global, files: &[Vec<u8>]) -> Result<String> {
-    told(alloc, program_of(alloc, files))
-}
-
-fn program_of(alloc: Global, files: &[Vec<u8>]) -> Result<Program, ProgramFault> {
-    let Ok(texts) = texts_of(alloc, files) else {
-        return Err(ProgramFault::Memory);
-    };
-    if texts.len() > MOST_FILES {
-        return Err(ProgramFault::Memory);
-    }
-    program_from(alloc, &texts)
-}
-
-/// A copy of a file; there is no memory for one that is too long.
-fn short_copy(alloc: Global, file: &[u8]) -> Result<Bytes, AllocError>
-    ensures { IfOk result (λ text. length text < 4294967295) }
-{
-    if file.len() >= 4294967295 {
-        return Err(AllocError);
-    }
-    Bytes::of(alloc, file)
-}
-
-/// Copies of files.
+/// Copies of files; there is no memory for one that is too long.
 fn texts_of(alloc: Global, files: &[Vec<u8>]) -> Result<List<Bytes>, AllocError>
     ensures { IfOk result (AllByRecursion (λ text. length text < 4294967295)) }
 {
@@ -144,21 +154,23 @@ fn texts_of(alloc: Global, files: &[Vec<u8>]) -> Result<List<Bytes>, AllocError>
     Ok(texts)
 }
 
-fn told(alloc: Global, read: Result<Program, ProgramFault>) -> Result<String> {
-    match read {
-        Ok(program) => accepted(alloc, &program),
-        Err(fault) => refusal_told(alloc, fault),
+fn short_copy(alloc: Global, file: &[u8]) -> Result<Bytes, AllocError>
+    ensures { IfOk result (λ text. length text < 4294967295) }
+{
+    if file.len() >= 4294967295 {
+        return Err(AllocError);
     }
+    Bytes::of(alloc, file)
 }
 
 fn accepted(alloc: Global, program: &Program) -> Result<String> {
-    let types = program.types.len();
-    let monitors = program.monitors.len();
-    let actions = program.actions.len();
-    let sites = program.sites.len();
-    Ok(format!(in alloc;
-        "= accepted: types {types}, monitors {monitors}, actions {actions}, sites {sites}\n"
-    )?)
+    let mut out = String::new(alloc);
+    put_number(&mut out, "= accepted: types ", program.types.len())?;
+    put_number(&mut out, ", monitors ", program.monitors.len())?;
+    put_number(&mut out, ", actions ", program.actions.len())?;
+    put_number(&mut out, ", sites ", program.sites.len())?;
+    out.push_str("\n")?;
+    Ok(out)
 }
 
 fn refusal_told(alloc: Global, fault: ProgramFault) -> Result<String> {
@@ -166,7 +178,8 @@ fn refusal_told(alloc: Global, fault: ProgramFault) -> Result<String> {
         ProgramFault::Lex(file, spot) => refused_in(alloc, "lex", file, spot),
         ProgramFault::Syntax(file, spot) => refused_in(alloc, "syntax", file, spot),
         ProgramFault::Typing(code, file, spot) => {
-            let cause = format!(in alloc; "type {code}")?;
+            let mut cause = String::new(alloc);
+            put_number(&mut cause, "type ", usize::from(code))?;
             refused_in(alloc, cause.as_str(), file, spot)
         }
         ProgramFault::Unbuilt(file, spot) => refused_in(alloc, "unbuilt", file, spot),

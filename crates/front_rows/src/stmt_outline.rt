@@ -1,11 +1,9 @@
 //! Statements on one line, with `; ` between those of a block; what holds statements stands in parentheses or braces.
 
 use crate::event_outline::put_event;
-use crate::expr_outline::{put_args, put_expr, put_suffixes};
+use crate::expr_outline::{put_expr, put_exprs, put_suffixes};
 use crate::type_outline::put_type;
-use epl_tree::{
-    Boxed, Expr, Exprs, Level, Listening, Name, Place, Stmt, StmtNode, Stmts, TypeExpr,
-};
+use epl_tree::{Expr, Exprs, Level, Listening, Name, Place, Stmt, StmtNode, Stmts, TypeExpr};
 use std::alloc::AllocError;
 
 /// A statement.
@@ -13,22 +11,24 @@ use std::alloc::AllocError;
 pub fn put_stmt(out: &mut String, stmt: &Stmt) -> Result<(), AllocError> {
     match &stmt.node {
         StmtNode::Block(all) => put_block(out, all),
-        StmtNode::On(listening) => put_listening(out, listening),
+        StmtNode::On(listening) => put_listening(out, "", listening),
         StmtNode::DeclareOn(shape, name, listening) => {
             put_declared(out, shape, name)?;
-            out.push_str(" := ")?;
-            put_listening(out, listening)
+            put_listening(out, " := ", listening)
         }
         StmtNode::AssignOn(place, listening) => {
             put_place(out, place)?;
-            out.push_str(" := ")?;
-            put_listening(out, listening)
+            put_listening(out, " := ", listening)
         }
         StmtNode::If(test, first, second) => {
             put_word(out, "(if ", test)?;
             out.push_str(" ")?;
             put_stmt(out, first.get())?;
-            put_else(out, second)
+            if let Some(second) = second {
+                out.push_str(" else ")?;
+                put_stmt(out, second.get())?;
+            }
+            out.push_str(")")
         }
         StmtNode::While(test, all) => {
             put_word(out, "(while ", test)?;
@@ -37,7 +37,10 @@ pub fn put_stmt(out: &mut String, stmt: &Stmt) -> Result<(), AllocError> {
             out.push_str(")")
         }
         StmtNode::For(name, items, all) => {
-            put_for(out, name, items)?;
+            out.push_str("(for ")?;
+            out.push_str(name.text.as_str())?;
+            put_word(out, " in ", items)?;
+            out.push_str(" ")?;
             put_block(out, all)?;
             out.push_str(")")
         }
@@ -49,44 +52,23 @@ pub fn put_stmt(out: &mut String, stmt: &Stmt) -> Result<(), AllocError> {
 #[cycle(statements)]
 pub fn put_block(out: &mut String, all: &Stmts) -> Result<(), AllocError> {
     out.push_str("{")?;
-    let mut is_first = true;
+    let mut sign = "";
     for stmt in all.as_slice() {
-        if !is_first {
-            out.push_str("; ")?;
-        }
-        is_first = false;
+        out.push_str(sign)?;
         put_stmt(out, stmt)?;
+        sign = "; ";
     }
     out.push_str("}")
 }
 
 #[cycle(statements)]
-fn put_else(out: &mut String, second: &Option<Boxed<Stmt>>) -> Result<(), AllocError> {
-    match second {
-        None => out.push_str(")"),
-        Some(second) => {
-            out.push_str(" else ")?;
-            put_stmt(out, second.get())?;
-            out.push_str(")")
-        }
-    }
-}
-
-#[cycle(statements)]
-fn put_listening(out: &mut String, listening: &Listening) -> Result<(), AllocError> {
+fn put_listening(out: &mut String, before: &str, listening: &Listening) -> Result<(), AllocError> {
+    out.push_str(before)?;
     out.push_str("(on ")?;
     put_event(out, &listening.event)?;
     out.push_str(" ")?;
     put_stmt(out, listening.callback.get())?;
     out.push_str(")")
-}
-
-fn put_for(out: &mut String, name: &Name, items: &Expr) -> Result<(), AllocError> {
-    out.push_str("(for ")?;
-    out.push_str(name.text.as_str())?;
-    out.push_str(" in ")?;
-    put_expr(out, items)?;
-    out.push_str(" ")
 }
 
 /// A type and the name that has it.
@@ -129,7 +111,15 @@ fn put_command(out: &mut String, node: &StmtNode) -> Result<(), AllocError> {
     match node {
         StmtNode::Log(text, level) => {
             put_word(out, "log ", text)?;
-            out.push_str(level_words(*level))
+            out.push_str(match level {
+                Level::Crit => " at CRIT",
+                Level::Fatal => " at FATAL",
+                Level::Error => " at ERROR",
+                Level::Warn => " at WARN",
+                Level::Info => " at INFO",
+                Level::Debug => " at DEBUG",
+                Level::Trace => " at TRACE",
+            })
         }
         StmtNode::Route(event) => put_word(out, "route ", event),
         StmtNode::Send(event, target) => {
@@ -154,17 +144,7 @@ fn put_word(out: &mut String, word: &str, value: &Expr) -> Result<(), AllocError
 fn put_called(out: &mut String, word: &str, name: &str, args: &Exprs) -> Result<(), AllocError> {
     out.push_str(word)?;
     out.push_str(name)?;
-    put_args(out, args)
-}
-
-fn level_words(level: Level) -> &'static str {
-    match level {
-        Level::Crit => " at CRIT",
-        Level::Fatal => " at FATAL",
-        Level::Error => " at ERROR",
-        Level::Warn => " at WARN",
-        Level::Info => " at INFO",
-        Level::Debug => " at DEBUG",
-        Level::Trace => " at TRACE",
-    }
+    out.push_str("(")?;
+    put_exprs(out, "", ", ", args)?;
+    out.push_str(")")
 }

@@ -9,5 +9,5 @@ mod program;
 pub use expr_rules::Wanted;
 pub use expression::check_expression;
 pub use listener::check_listener;
-pub use program::check;
+pub use program::{check, discard};
 pub use type_table::{CheckFault, Scope, Table};

@@ -24,3 +24,6 @@ pub fn check(alloc: Global, units: &Units) -> Result<Program, CheckFault>
     accepted_programs_resolve();
     stmt_check::check(alloc, units)
 }
+
+/// Lets a program go. That this can be done is proved here alone: who holds a program above hands it to this.
+pub fn discard(_program: Program) {}

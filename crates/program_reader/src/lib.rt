@@ -6,3 +6,4 @@ mod program;
 
 pub use fault::ProgramFault;
 pub use program::program_from;
+pub use program_check::discard;

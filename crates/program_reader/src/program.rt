@@ -48,7 +48,10 @@ fn built(form: Option<(u32, Spot)>, program: Program) -> Result<Program, Program
 {
     match form {
         None => Ok(program),
-        Some((file, spot)) => Err(ProgramFault::Unbuilt(file, spot)),
+        Some((file, spot)) => {
+            program_check::discard(program);
+            Err(ProgramFault::Unbuilt(file, spot))
+        }
     }
 }
 
