@@ -11,10 +11,26 @@ use std::alloc::AllocError;
 #[cycle(events)]
 pub fn put_event(out: &mut String, tree: &EventExpr) -> Result<(), AllocError> {
     match &tree.node {
-        EventNode::Followed(first, rest) => put_chain(out, first.get(), " -> ", rest),
-        EventNode::Or(first, rest) => put_chain(out, first.get(), " or ", rest),
-        EventNode::Xor(first, rest) => put_chain(out, first.get(), " xor ", rest),
-        EventNode::And(first, rest) => put_chain(out, first.get(), " and ", rest),
+        EventNode::Followed(first, rest) => {
+            out.push_str("(")?;
+            put_event(out, first.get())?;
+            put_rest(out, " -> ", rest)
+        }
+        EventNode::Or(first, rest) => {
+            out.push_str("(")?;
+            put_event(out, first.get())?;
+            put_rest(out, " or ", rest)
+        }
+        EventNode::Xor(first, rest) => {
+            out.push_str("(")?;
+            put_event(out, first.get())?;
+            put_rest(out, " xor ", rest)
+        }
+        EventNode::And(first, rest) => {
+            out.push_str("(")?;
+            put_event(out, first.get())?;
+            put_rest(out, " and ", rest)
+        }
         EventNode::All(operand) => {
             out.push_str("(all ")?;
             put_event(out, operand.get())?;
@@ -41,15 +57,9 @@ pub fn put_event(out: &mut String, tree: &EventExpr) -> Result<(), AllocError> {
     }
 }
 
+/// The operands behind the first, each behind its operator, and the end of the outline.
 #[cycle(events)]
-fn put_chain(
-    out: &mut String,
-    first: &EventExpr,
-    operator: &str,
-    rest: &EventExprs,
-) -> Result<(), AllocError> {
-    out.push_str("(")?;
-    put_event(out, first)?;
+fn put_rest(out: &mut String, operator: &str, rest: &EventExprs) -> Result<(), AllocError> {
     for tree in rest.as_slice() {
         out.push_str(operator)?;
         put_event(out, tree)?;

@@ -89,11 +89,11 @@ pub fn put_exprs(
     between: &str,
     items: &Exprs,
 ) -> Result<(), AllocError> {
-    let mut sign = before;
+    let mut first = true;
     for tree in items.as_slice() {
-        out.push_str(sign)?;
+        out.push_str(if first { before } else { between })?;
         put_expr(out, tree)?;
-        sign = between;
+        first = false;
     }
     Ok(())
 }
@@ -141,13 +141,15 @@ pub fn put_suffixes(out: &mut String, suffixes: &Suffixes) -> Result<(), AllocEr
 
 #[cycle(expressions)]
 fn put_entries(out: &mut String, entries: &Entries) -> Result<(), AllocError> {
-    let mut sign = "";
+    let mut first = true;
     for entry in entries.as_slice() {
-        out.push_str(sign)?;
+        if !first {
+            out.push_str(", ")?;
+        }
         put_expr(out, &entry.key)?;
         out.push_str(": ")?;
         put_expr(out, &entry.value)?;
-        sign = ", ";
+        first = false;
     }
     Ok(())
 }

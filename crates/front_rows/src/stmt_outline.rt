@@ -52,11 +52,13 @@ pub fn put_stmt(out: &mut String, stmt: &Stmt) -> Result<(), AllocError> {
 #[cycle(statements)]
 pub fn put_block(out: &mut String, all: &Stmts) -> Result<(), AllocError> {
     out.push_str("{")?;
-    let mut sign = "";
+    let mut first = true;
     for stmt in all.as_slice() {
-        out.push_str(sign)?;
+        if !first {
+            out.push_str("; ")?;
+        }
         put_stmt(out, stmt)?;
-        sign = "; ";
+        first = false;
     }
     out.push_str("}")
 }
