@@ -1,0 +1,10 @@
+pub mod Active
+pub mod Common
+pub mod Operands
+pub mod Patterns
+pub mod Spans
+pub mod Start
+pub mod Step
+pub mod UnderWay
+pub mod Waits
+pub mod formers

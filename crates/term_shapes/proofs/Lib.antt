@@ -1,0 +1,8 @@
+mod Common
+pub mod Lists
+pub mod Binding
+pub mod Fitting
+pub mod Starting
+pub mod Hearing
+pub mod Forms
+pub mod Stepping
