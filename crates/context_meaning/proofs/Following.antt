@@ -1,7 +1,7 @@
 -- What is done in a context keeps who was there before: an instance stays of its monitor, and a listener with its instance, its site and
 -- what its callback takes along.
 use Rattle.std.proofs.Common.{◌≡◌, ◌+◌, ◌≤◌, ◌∷◌, ◌++◌}
-use Rattle.context_meaning.proofs.Common.{ℕ, List, [], filter, slice_get, Bool, Some, All, Contains, refl, sym, ap, subst, ◌∙◌, arith, cond_both, ⊎_elim, eqb-true, find, All-filter, All-push, All-weaker, All-contains, Value, Program, Effect, Act, UnderWay, begun_in, setting_of, Instance, Listener, Context, instance_of, is_born, is_instance, with_expression, with_fuel, with_globals, with_instance, with_listener, without_instance, apply, apply_all, listening, with_act, ListenerFits}
+use Rattle.context_meaning.proofs.Common.{ℕ, List, [], filter, slice_get, Bool, Some, All, Contains, refl, sym, ap, subst, ◌∙◌, arith, cond_both, ⊎_elim, eqb-true, find, All-filter, All-push, All-weaker, All-contains, Value, Program, Effect, Act, UnderWay, begun_in, setting_of, Instance, Listener, Context, instance_of, is_born, is_instance, with_expression, with_fuel, with_globals, with_instance, with_listener, without_instance, act_in, apply, apply_all, listening, with_act, ListenerFits}
 use Rattle.std.proofs.lemmas.List.Elements.{All-contains_itself}
 use Rattle.action_host.specs.declared.host.Effect.TheVariants as effect
 use Rattle.context_meaning.proofs.Changing.{Carries}
@@ -162,7 +162,7 @@ module _ (program : Program) where
     expression = expression_follows;
     begun = begun_follows;
     without = without_follows;
-    act = λ ending body locals i c. act_follows i.number ending _ c;
+    act = λ ending body locals i c. act_follows i.number ending (act_in program ending body locals i c) c;
   }
 
   -- a listener that fits goes on fitting, live or not

@@ -42,7 +42,7 @@ module _ (program : Program) (typed : Typed program) (law : ShapesKept) where
   event_fits e c h f = unmatched_fits e (turned program (stimulus.Event e) c) h (turned_fits program typed law (stimulus.Event e) c h f)
 
   -- where there is an instance
-  where_fits : (go : Context → Context) (c : Context) → ContextFits program c → ((d : Context) → ContextFits program d → ContextFits program (go d)) → ContextFits program (where_instances go c)
+  where_fits : (go : Context → Context) (c : Context) → ContextFits program c → ((d : Context) → ContextFits program d → ContextFits program (go d)) → ContextFits program (where_instances program go c)
   where_fits go c f k = cond_both (has_instances c) (behind_charge 5 go c) c (ContextFits program) (λ _. charge_fits program 5 go c f (λ fuel. k (with_fuel fuel c) (fuel_fits program c fuel f))) (λ _. f)
 
   -- the listeners meet a thing
