@@ -1,6 +1,6 @@
 -- What each single change of a context carries over, whole runs, turns and handlings carry over.
 use Rattle.std.proofs.Common.{◌+◌, ◌-◌, ◌≤◌, ◌∷◌, if◌then◌else◌}
-use Rattle.context_meaning.proofs.Common.{ℕ, ℤ, List, [], filter, slice_get, Bool, true, false, Option, Some, None, cond_both, Value, Program, Monitor, Site, End, UnderWay, left_of, Binding, Stepped, Stimulus, Instance, Listener, Waiting, Context, behind_charge, births_in, has_instances, instance_of, is_busy, is_its, listener_of, spend, unless_spent, with_clock, with_expression, with_fuel, with_instance, with_line, with_some, without_birth, without_instance, without_listeners, act_in, come, dying, ended, fault_line, finished, idle, idle_in, last_run, ran, run_in, with_act, Turned, at_site, body_number, callback_locals, called, called_all, called_live, gone, left_over, step_at, step_taken, stepped, stepped_at, stepped_born, turn, turned, defaults_in, event_turns, load_handled, met, one_turn, timed, unmatched, where_instances}
+use Rattle.context_meaning.proofs.Common.{ℕ, ℤ, List, [], filter, slice_get, Bool, true, false, Option, Some, None, cond_both, Value, Program, Monitor, Site, End, UnderWay, left_of, Binding, Stepped, Stimulus, Instance, Listener, Waiting, Context, behind_charge, births_in, has_instances, instance_of, is_busy, listener_of, spend, unless_spent, with_clock, with_expression, with_fuel, with_instance, with_line, with_some, without_birth, without_instance, without_listeners, act_in, come, dying, ended, fault_line, finished, idle, idle_in, last_run, ran, run_in, with_act, Turned, at_site, body_number, callback_locals, called, called_all, called_live, gone, left_over, step_at, step_taken, stepped, stepped_born, turn, turned, defaults_in, event_turns, load_handled, met, one_turn, timed, unmatched, where_instances}
 use Rattle.action_host.specs.declared.host.End.TheVariants as end
 use Rattle.record_book.specs.declared.cargo.Line.{Line}
 use Rattle.term_meaning.specs.Step.{is_gone}

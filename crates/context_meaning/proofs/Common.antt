@@ -1,5 +1,5 @@
 -- The names that most files here cite, passed on from one place. Declares nothing.
-pub use Rattle.std.proofs.Common.{All, Bool, Contains, Err, List, None, Option, Some, [], ap, arith, false, filter, find, inl, inr, length, length-append, map, nat_le, nat_lt, not, refl, slice_get, subst, suc, sym, true, zero, ℕ, ℤ, ⊎_elim, ◌∙◌}
+pub use Rattle.std.proofs.Common.{All, Bool, Contains, Err, List, None, Option, Some, [], ap, arith, false, filter, find, inl, inr, length, map, nat_le, nat_lt, not, refl, slice_get, subst, suc, sym, true, zero, ℕ, ℤ, ⊎_elim, ◌∙◌}
 pub use Rattle.std.proofs.lemmas.Bool.{and_parts, cond_both, eqb-true}
 pub use Rattle.std.proofs.lemmas.List.Elements.{All-cons, All-contains, All-filter, All-head, All-nil, All-push, All-tail, All-weaker}
 pub use Rattle.std.proofs.lemmas.Option.{same_Some, slice_get_within}
@@ -19,7 +19,7 @@ pub use Rattle.context_meaning.specs.Fits.{ContextFits, InstanceFits, ListenerFi
 pub use Rattle.record_book.specs.Fits.{CargoFits, IsTime}
 pub use Rattle.context_meaning.specs.Handling.{cargo_handled, defaults_in, drained, event_turns, first_handled, front_handled, front_weight, handle, last_number, load_handled, marks_of, met, one_turn, settled, thing_handled, timed, unmatched, weight_of, where_instances}
 pub use Rattle.context_meaning.specs.Listeners.{Listener, callback_locals}
-pub use Rattle.context_meaning.specs.Turns.{Turned, at_site, body_number, called, called_all, called_live, gone, left_over, step_at, step_taken, stepped, stepped_at, stepped_born, turn, turned}
+pub use Rattle.context_meaning.specs.Turns.{Turned, at_site, body_number, called, called_all, called_live, gone, left_over, step_at, step_taken, stepped, stepped_born, turn, turned}
 pub use Rattle.record_book.specs.declared.cargo.Cargo.{Cargo}
 pub use Rattle.context_meaning.specs.declared.context.Instance.{Instance}
 pub use Rattle.context_meaning.specs.declared.context.Waiting.{Waiting}

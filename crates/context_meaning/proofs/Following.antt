@@ -1,12 +1,12 @@
 -- What is done in a context keeps who was there before: an instance stays of its monitor, and a listener with its instance, its site and
 -- what its callback takes along.
-use Rattle.std.proofs.Common.{◌≡◌, ◌+◌, ◌≤◌, ◌∷◌, ◌++◌}
-use Rattle.context_meaning.proofs.Common.{ℕ, List, [], filter, slice_get, Bool, Some, All, Contains, refl, sym, ap, subst, ◌∙◌, arith, cond_both, ⊎_elim, eqb-true, find, All-filter, All-push, All-weaker, All-contains, Value, Program, Effect, Act, UnderWay, begun_in, setting_of, Instance, Listener, Context, instance_of, is_born, is_instance, with_expression, with_fuel, with_globals, with_instance, with_listener, without_instance, act_in, apply, apply_all, listening, with_act, ListenerFits}
+use Rattle.std.proofs.Common.{◌≡◌, ◌+◌, ◌≤◌, ◌∷◌}
+use Rattle.context_meaning.proofs.Common.{ℕ, List, [], filter, slice_get, Bool, Some, All, Contains, refl, sym, ap, subst, ◌∙◌, arith, cond_both, ⊎_elim, eqb-true, find, All-filter, All-push, All-weaker, All-contains, Value, Program, Effect, Act, UnderWay, begun_in, setting_of, Instance, Listener, Context, instance_of, is_born, is_instance, listener_of, with_expression, with_fuel, with_globals, with_instance, with_listener, without_instance, act_in, apply, apply_all, listening, with_act, ListenerFits}
 use Rattle.std.proofs.lemmas.List.Elements.{All-contains_itself}
 use Rattle.action_host.specs.declared.host.Effect.TheVariants as effect
 use Rattle.context_meaning.proofs.Changing.{Carries}
 use Rattle.context_meaning.proofs.Choosing.{with_some_both}
-use Rattle.context_meaning.proofs.Finding.{FoundAs, find_all, find_others, find_push, find_put, moved, put_all}
+use Rattle.context_meaning.proofs.Finding.{FoundAs, find_all, find_contains, find_others, find_passes, find_push, find_put, moved, put_all}
 
 -- a listener with the birth, the instance, the site and the values of another one
 pub record SameListener (k l : Listener) : Type 0 where
@@ -80,6 +80,13 @@ follows_then c d e a b = record {
   listeners = All-weaker (WasThere d) (WasThere c) (λ l h. was_there c d l a h) e.listeners b.listeners;
 }
 
+-- the live listener of a birth is the one that alone had that birth
+pub same_live : (birth : ℕ) (l m : Listener) (c d : Context) → Follows c d → birth ≤ c.births → ((k : Listener) → Contains c.listeners k → k.birth ≡ birth → k ≡ l) → listener_of birth d ≡ Some m → SameListener l m
+same_live birth l m c d a born alone live =
+    let is = eqb-true m.birth birth (find_passes (is_born birth) d.listeners m live) in
+    let was = All-contains (WasThere c) d.listeners m a.listeners (find_contains (is_born birth) d.listeners m live) (subst (λ n. n ≤ c.births) (sym is) born) in
+    subst (λ k. SameListener k m) (alone was.0 was.1 (sym was.2.birth ∙ is)) was.2
+
 -- ---- single changes
 
 -- one more listener
@@ -100,7 +107,7 @@ moved_there : (c : Context) (u : UnderWay) (l : Listener) → WasThere c l → W
 moved_there c u l h born = let old = h born in (old.0, old.1, record { birth = old.2.birth; instance = old.2.instance; site = old.2.site; captured = old.2.captured })
 
 -- another event expression
-expression_follows : (birth : ℕ) (u : UnderWay) (c : Context) → Follows c (with_expression birth u c)
+pub expression_follows : (birth : ℕ) (u : UnderWay) (c : Context) → Follows c (with_expression birth u c)
 expression_follows birth u c = record {
   begun = omega arith;
   births = omega arith;

@@ -1,8 +1,10 @@
 -- What naive evaluation of a typed program keeps of its contexts, as the code that handles entries asks for it.
-use Rattle.std.proofs.Common.{◌≡◌, ◌+◌}
+use Rattle.std.proofs.Common.{◌≡◌, ◌+◌, ◌≤◌}
 use Rattle.context_meaning.proofs.Common.{ℕ, ℤ, List, [], slice_get, Some, All, Contains, refl, All-contains, Value, out-Value, Program, Monitor, Site, Typed, Cargo, UnderWay, Binding, Stimulus, CompletionFits, CompletionsFit, ExpressionFits, HeardFits, Instance, Listener, Waiting, Context, instance_of, listener_of, row_in_front, with_clock, with_expression, with_instance, Turned, body_number, callback_locals, called_all, called_live, gone, step_at, stepped_born, cargo_handled, defaults_in, event_turns, first_handled, load_handled, one_turn, thing_handled, timed, CargoFits, ContextFits, IsTime, ListenerFits, MayRun, WaitingFits}
 use Rattle.value_shapes.specs.Fits.{IsEvent}
 use Rattle.context_meaning.proofs.Running.{ShapesKept, clock_fits}
+use Rattle.context_meaning.proofs.Changing.{called_live_carries}
+use Rattle.context_meaning.proofs.Following.{Follows, SameListener, expression_follows, follows_carries, follows_then, same_live}
 use Rattle.context_meaning.proofs.Heads.{callback_may, ondie_may}
 use Rattle.context_meaning.proofs.Beginning.{begun_fits, load_fits, may_onload}
 use Rattle.context_meaning.proofs.Turning.{Holds, called_all_holds, called_live_holds, expression_fits, gone_fits, live_holds, may_callback, step_fits, stepped_born_fits, turned_fits}
@@ -64,6 +66,24 @@ module _ (program : Program) (typed : Typed program) (law : ShapesKept) where
   -- a listener is stepped
   pub kept_stepped : (s : Stimulus) (birth : ℕ) (t : Turned) → ContextFits program t.context → HeardFits program.types s → ContextFits program (stepped_born program s birth t).context
   kept_stepped s birth t f heard = stepped_born_fits program typed law s birth t heard f
+
+  -- ---- who is there
+
+  -- behind a new event expression
+  pub kept_moved : (birth : ℕ) (u : UnderWay) (c : Context) → Follows c (with_expression birth u c)
+  kept_moved birth u c = expression_follows birth u c
+
+  -- behind a callback
+  pub kept_behind : (l : Listener) (site : Site) (completion : List Binding) (c : Context) → Follows c (called_live program l site completion c)
+  kept_behind l site completion c = called_live_carries program Follows (follows_carries program) l site completion c
+
+  -- one behind another
+  pub kept_then : (c d e : Context) → Follows c d → Follows d e → Follows c e
+  kept_then c d e a b = follows_then c d e a b
+
+  -- the live listener of a birth has the instance, the site and the values of the one that alone had that birth
+  pub kept_same : (birth : ℕ) (l m : Listener) (c d : Context) → Follows c d → birth ≤ c.births → ((k : Listener) → Contains c.listeners k → k.birth ≡ birth → k ≡ l) → listener_of birth d ≡ Some m → SameListener l m
+  kept_same birth l m c d a born alone live = same_live birth l m c d a born alone live
 
   -- ---- turns
 

@@ -1,6 +1,6 @@
 -- What a run comes to keeps a context's fit.
 use Rattle.std.proofs.Common.{◌≡◌, ◌+◌, ◌≤◌, ◌∷◌}
-use Rattle.context_meaning.proofs.Common.{ℕ, ℤ, List, [], filter, slice_get, Bool, Option, Some, All, refl, sym, ap, subst, ◌∙◌, same_Some, cond_both, All-head, All-tail, All-filter, All-push, All-weaker, Value, Program, Site, Typed, Effect, Scene, Outcome, Went, Ended, Act, act_of, come_to, AllFit, head_of, GlobalsFit, UnderWay, begun_in, setting_of, Instance, Listener, Waiting, Context, in_row, instance_of, is_instance, scene_of, spend, put_globals, with_clock, with_fuel, with_globals, with_line, with_listener, apply, apply_all, listening, with_act, act_in, InstanceFits, ListenerFits, ContextFits, IsTime, MayRun, WaitingFits}
+use Rattle.context_meaning.proofs.Common.{ℕ, ℤ, List, [], filter, slice_get, Bool, Option, Some, All, sym, ap, subst, ◌∙◌, same_Some, cond_both, All-head, All-tail, All-filter, All-push, All-weaker, Value, Program, Site, Typed, Effect, Scene, Outcome, Went, Ended, Act, act_of, come_to, AllFit, head_of, GlobalsFit, UnderWay, begun_in, setting_of, Instance, Listener, Waiting, Context, in_row, instance_of, is_instance, scene_of, spend, put_globals, with_clock, with_fuel, with_globals, with_line, with_listener, apply, apply_all, listening, with_act, act_in, InstanceFits, ListenerFits, ContextFits, IsTime, MayRun, WaitingFits}
 use Rattle.action_host.specs.declared.host.Effect.TheVariants as effect
 use Rattle.body_meaning.specs.Acts.{act}
 use Rattle.typed_runs.specs.Bodies.{Head}

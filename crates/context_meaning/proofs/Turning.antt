@@ -1,6 +1,6 @@
 -- Steps of listeners, and turns of them, keep a context's fit.
 use Rattle.std.proofs.Common.{◌≡◌, ◌-◌, ◌∷◌}
-use Rattle.context_meaning.proofs.Common.{ℕ, List, [], slice_get, false, Option, Some, None, All-head, All-tail, refl, sym, subst, ◌∙◌, same_Some, cond_both, eqb-true, find, Program, Site, Typed, UnderWay, left_of, Binding, Stepped, Stimulus, CompletionFits, CompletionsFit, ExpressionFits, HeardFits, Instance, Listener, Context, births_in, instance_of, is_born, listener_of, spend, unless_spent, with_expression, with_fuel, with_some, without_birth, idle_in, ran, Turned, at_site, body_number, callback_locals, called, called_all, called_live, gone, left_over, step_at, step_taken, stepped, stepped_at, stepped_born, turn, turned, one_turn, ListenerFits, ContextFits, MayRun}
+use Rattle.context_meaning.proofs.Common.{ℕ, List, [], slice_get, false, Option, Some, None, All-head, All-tail, refl, sym, subst, ◌∙◌, same_Some, cond_both, eqb-true, Program, Site, Typed, UnderWay, left_of, Binding, Stepped, Stimulus, CompletionFits, CompletionsFit, ExpressionFits, HeardFits, Instance, Listener, Context, births_in, instance_of, is_born, listener_of, spend, unless_spent, with_expression, with_fuel, without_birth, idle_in, ran, Turned, at_site, body_number, callback_locals, called, called_all, called_live, gone, left_over, step_at, step_taken, stepped, stepped_born, turn, turned, ListenerFits, ContextFits, MayRun}
 use Rattle.term_meaning.specs.Step.{is_gone}
 use Rattle.term_shapes.specs.Laws.{StepFits}
 use Rattle.context_meaning.proofs.Choosing.{charge_both, unless_both, with_some_both}

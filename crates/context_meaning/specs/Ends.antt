@@ -1,6 +1,6 @@
 -- Effects of bodies, runs of bodies in an instance, and how an instance ends.
 use Rattle.std.specs.Prelude.{◌∷◌, if◌then◌else◌}
-use Rattle.context_meaning.specs.Common.{ℕ, List, [], Bool, true, false, slice_get, Value, Program, Monitor, Instance}
+use Rattle.context_meaning.specs.Common.{ℕ, List, [], Bool, true, false, slice_get, Value, Program, Instance}
 use Rattle.action_host.specs.declared.host.Effect.{Effect}
 use Rattle.action_host.specs.declared.host.Effect.TheVariants as effect
 use Rattle.action_host.specs.declared.host.Fault.{Fault}

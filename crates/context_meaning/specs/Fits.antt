@@ -1,5 +1,5 @@
 -- Contexts of typed programs: instances and listeners have what their monitors and sites say, and what waits in front are events.
-use Rattle.context_meaning.specs.Common.{ℕ, List, [], map, Some, slice_get, length, find, Value, out-Value, Program, Site, Instance, Waiting}
+use Rattle.context_meaning.specs.Common.{ℕ, List, map, Some, slice_get, length, find, Value, out-Value, Program, Site, Instance, Waiting}
 use Rattle.std.specs.Prelude.{◌≡◌, ◌≤◌, ◌<◌}
 use Rattle.std.specs.List.{All}
 use Rattle.value_shapes.specs.Fits.{AllFit, IsEvent}
