@@ -92,7 +92,7 @@ module _ (program : Program) (R : Context → Context → Type 0) (k : Carries p
 
   -- its callback runs with a completion
   pub called_carries : (l : Listener) (site : Site) (completion : List Binding) (c : Context) → R c (called program l site completion c)
-  called_carries l site completion c = charge_carries 1 (ran program l.instance (body_number program l.site) (callback_locals program.types site l.captured completion)) c (ran_carries l.instance (body_number program l.site) (callback_locals program.types site l.captured completion))
+  called_carries l site completion c = ran_carries l.instance (body_number program l.site) (callback_locals program.types site l.captured completion) c
 
   -- while it is live
   pub called_live_carries : (l : Listener) (site : Site) (completion : List Binding) (c : Context) → R c (called_live program l site completion c)

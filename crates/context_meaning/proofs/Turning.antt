@@ -1,6 +1,6 @@
 -- Steps of listeners, and turns of them, keep a context's fit.
 use Rattle.std.proofs.Common.{◌≡◌, ◌-◌, ◌∷◌}
-use Rattle.context_meaning.proofs.Common.{ℕ, List, [], slice_get, false, Option, Some, None, All-head, All-tail, refl, sym, subst, ◌∙◌, same_Some, cond_both, eqb-true, Program, Site, Typed, UnderWay, left_of, Binding, Stepped, Stimulus, CompletionFits, CompletionsFit, ExpressionFits, HeardFits, Instance, Listener, Context, births_in, instance_of, is_born, listener_of, spend, unless_spent, with_expression, with_fuel, without_birth, idle_in, ran, Turned, at_site, body_number, callback_locals, called, called_all, called_live, gone, left_over, step_at, step_taken, stepped, stepped_born, turn, turned, ListenerFits, ContextFits, MayRun}
+use Rattle.context_meaning.proofs.Common.{ℕ, List, [], slice_get, false, Option, Some, None, All-head, All-tail, refl, sym, subst, ◌∙◌, same_Some, cond_both, eqb-true, Program, Site, Typed, UnderWay, left_of, Binding, Stepped, Stimulus, CompletionFits, CompletionsFit, ExpressionFits, HeardFits, Instance, Listener, Context, births_in, instance_of, is_born, listener_of, unless_spent, with_expression, with_fuel, without_birth, idle_in, Turned, at_site, body_number, callback_locals, called, called_all, called_live, gone, left_over, step_at, step_taken, stepped, stepped_born, turn, turned, ListenerFits, ContextFits, MayRun}
 use Rattle.term_meaning.specs.Step.{is_gone}
 use Rattle.term_shapes.specs.Laws.{StepFits}
 use Rattle.context_meaning.proofs.Choosing.{charge_both, unless_both, with_some_both}
@@ -50,10 +50,6 @@ module _ (program : Program) where
 
   -- ---- what holds stays
 
-  -- a context that is spent
-  spend_holds : (l : Listener) (c : Context) → Holds program l c → Holds program l (spend c)
-  spend_holds l c h = record { fits = spend_fits program c h.fits; listener = h.listener }
-
   -- other fuel
   fuel_holds : (l : Listener) (fuel : ℕ) (c : Context) → Holds program l c → Holds program l (with_fuel fuel c)
   fuel_holds l fuel c h = record { fits = fuel_fits program c fuel h.fits; listener = h.listener }
@@ -66,17 +62,13 @@ module _ (program : Program) (typed : Typed program) (law : ShapesKept) where
   may_callback l site completion i c h there fits found = callback_may program typed c.begun c.instances l site completion i h.listener there fits found
 
   -- it runs
-  callback_holds : (l : Listener) (site : Site) (completion : List Binding) (c : Context) → slice_get program.sites l.site ≡ Some site → CompletionFits program.types site.bound completion → Holds program l c → Holds program l (ran program l.instance (body_number program l.site) (callback_locals program.types site l.captured completion) c)
-  callback_holds l site completion c there fits h =
+  called_holds : (l : Listener) (site : Site) (completion : List Binding) (c : Context) → slice_get program.sites l.site ≡ Some site → CompletionFits program.types site.bound completion → Holds program l c → Holds program l (called program l site completion c)
+  called_holds l site completion c there fits h =
       let locals = callback_locals program.types site l.captured completion in
       record {
         fits = ran_fits program typed law l.instance (body_number program l.site) locals c h.fits (λ i found. may_callback l site completion i c h there fits found);
-        listener = still_fits program l c (ran program l.instance (body_number program l.site) locals c) (ran_carries program Follows (follows_carries program) l.instance (body_number program l.site) locals c) h.listener;
+        listener = still_fits program l c (called program l site completion c) (ran_carries program Follows (follows_carries program) l.instance (body_number program l.site) locals c) h.listener;
       }
-
-  -- behind its charge
-  called_holds : (l : Listener) (site : Site) (completion : List Binding) (c : Context) → slice_get program.sites l.site ≡ Some site → CompletionFits program.types site.bound completion → Holds program l c → Holds program l (called program l site completion c)
-  called_holds l site completion c there fits h = charge_both (Holds program l) 1 (ran program l.instance (body_number program l.site) (callback_locals program.types site l.captured completion)) c (spend_holds program l c h) (λ fuel less. callback_holds l site completion (with_fuel fuel c) there fits (fuel_holds program l fuel c h))
 
   -- while it is live
   pub called_live_holds : (l : Listener) (site : Site) (completion : List Binding) (c : Context) → slice_get program.sites l.site ≡ Some site → CompletionFits program.types site.bound completion → Holds program l c → Holds program l (called_live program l site completion c)

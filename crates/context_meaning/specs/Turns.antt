@@ -26,9 +26,9 @@ module _ (program : Program) where
   abbrev pub step_at : Context → Stimulus → Listener → Site → Stepped
   step_at c s l site = stepped_in (setting_of program.types site l.expression.operands c.clock) s l.expression
 
-  -- its callback runs with a completion, which is charged
+  -- its callback runs with a completion; that is charged as each run of a body is
   abbrev pub called : Listener → Site → List Binding → Context → Context
-  called l site completion c = behind_charge 1 (ran program l.instance (body_number l.site) (callback_locals program.types site l.captured completion)) c
+  called l site completion c = ran program l.instance (body_number l.site) (callback_locals program.types site l.captured completion) c
 
   -- the same, while it is live
   abbrev pub called_live : Listener → Site → List Binding → Context → Context
