@@ -14,7 +14,3 @@ unless_both P go c h k = cond_both c.spent c (go c) P (λ _. h) (λ _. k)
 -- what stands behind a charge, over less fuel
 pub charge_both : (P : Context → Type 0) (amount : ℕ) (go : Context → Context) (c : Context) → P (spend c) → ((fuel : ℕ) → fuel ≤ c.fuel → P (go (with_fuel fuel c))) → P (behind_charge amount go c)
 charge_both P amount go c h k = cond_both (nat_le amount c.fuel) (go (with_fuel (c.fuel - amount) c)) (spend c) P (λ _. k (c.fuel - amount) (omega arith)) (λ _. h)
-
--- what changes nothing with anything that is there changes nothing
-pub with_some_same : {A : Type 0} (o : Option A) (go : A → Context → Context) (c : Context) → ((a : A) → go a c ≡ c) → with_some o go c ≡ c
-with_some_same o go c h = with_some_both (λ d. d ≡ c) o go c refl (λ a _. h a)

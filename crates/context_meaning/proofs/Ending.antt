@@ -1,18 +1,19 @@
 -- Runs of bodies keep a context's fit, with what stands behind their ends.
 use Rattle.std.proofs.Common.{◌≡◌}
-use Rattle.context_meaning.proofs.Common.{ℕ, List, [], Bool, true, false, not, slice_get, Some, cond_both, All-filter, All-weaker, Value, Program, Typed, End, Instance, Listener, Context, instance_of, is_instance, is_busy, is_its, with_some, without_instance, without_listeners, act_in, come, run_in, last_run, dying, ended, idle, finished, ran, fault_line, InstanceFits, ListenerFits, ContextFits, MayRun}
+use Rattle.context_meaning.proofs.Common.{ℕ, List, [], Bool, true, false, not, slice_get, Some, cond_both, All-filter, All-weaker, Value, Program, Typed, End, Instance, Listener, Context, instance_of, is_instance, is_busy, is_its, with_some, without_instance, without_listeners, act_in, come, run_in, last_run, dying, ended, idle, idle_in, finished, ran, fault_line, InstanceFits, ListenerFits, ContextFits, MayRun}
 use Rattle.action_host.specs.declared.host.End.TheVariants as end
 use Rattle.context_meaning.proofs.Choosing.{unless_both, with_some_both}
 use Rattle.context_meaning.proofs.Finding.{find_others, others}
-use Rattle.context_meaning.proofs.Running.{RunsIn, RunsKeepShapes, spend_fits, line_fits, filter_fits, run_runs}
+use Rattle.context_meaning.proofs.Running.{RunsIn, ShapesKept, spend_fits, line_fits, filter_fits, found_runs, run_runs}
 use Rattle.context_meaning.proofs.Heads.{ondie_may}
 
 module _ (program : Program) where
   -- an instance is gone
   pub without_fits : (number : ℕ) (c : Context) → ContextFits program c → ContextFits program (without_instance number c)
   without_fits number c f = record {
+    clock = f.clock;
     instances = All-filter (λ (i : Instance). not (is_instance number i)) (InstanceFits program c.begun) c.instances f.instances;
-    listeners = All-weaker (ListenerFits program c.begun c.instances) (ListenerFits program c.begun (others number c.instances)) (λ l h. record { instance = h.instance; site = h.site; there = h.there; captured = h.captured; monitor = λ i found. h.monitor i (find_others number l.instance c.instances i found) }) c.listeners f.listeners;
+    listeners = All-weaker (ListenerFits program c.begun c.instances) (ListenerFits program c.begun (others number c.instances)) (λ l h. record { instance = h.instance; site = h.site; there = h.there; captured = h.captured; expression = h.expression; monitor = λ i found. h.monitor i (find_others number l.instance c.instances i found) }) c.listeners f.listeners;
     row = f.row;
     front = f.front;
   }
@@ -24,10 +25,10 @@ module _ (program : Program) where
   last_fits i (end.Failed fault) c f = line_fits program _ c f
   last_fits i end.Spent c f = spend_fits program c f
 
-module _ (program : Program) (typed : Typed program) (law : RunsKeepShapes) where
+module _ (program : Program) (typed : Typed program) (law : ShapesKept) where
   -- a run in the instance with this number, where what comes behind its end keeps the fit
   pub run_in_fits : (behind : Instance → End → Context → Context) (ending : Bool) (body : ℕ) (locals : List Value) (number : ℕ) (c : Context) → ContextFits program c → ((i : Instance) → instance_of number c ≡ Some i → MayRun program body locals i) → ((i : Instance) (e : End) (d : Context) → RunsIn program i.number i.monitor d → ContextFits program (behind i e d)) → ContextFits program (run_in program behind ending body locals number c)
-  run_in_fits behind ending body locals number c f may k = with_some_both (ContextFits program) (instance_of number c) (λ i d. come behind ending i (act_in program ending body locals i d) d) c f (λ i found. k i _ _ (run_runs program typed law ending body locals number i c f found (may i found)))
+  run_in_fits behind ending body locals number c f may k = with_some_both (ContextFits program) (instance_of number c) (λ i d. come program behind ending i (act_in program ending body locals i d) d) c f (λ i found. k i _ _ (run_runs program typed law ending body locals number i c f found (may i found)))
 
   -- `ondie` of an instance, where its monitor has one
   pub dying_fits : (i : Instance) (c : Context) → ContextFits program c → ((j : Instance) → instance_of i.number c ≡ Some j → j.monitor ≡ i.monitor) → ContextFits program (dying program i c)
@@ -43,6 +44,10 @@ module _ (program : Program) (typed : Typed program) (law : RunsKeepShapes) wher
   -- an instance without a live listener ends
   pub idle_fits : (i : Instance) (c : Context) → RunsIn program i.number i.monitor c → ContextFits program (idle program i c)
   idle_fits i c r = cond_both (is_busy i.number c) c (ended program i c) (ContextFits program) (λ _. r.fits) (λ _. ended_fits i c r)
+
+  -- the same of the instance with this number
+  pub idle_in_fits : (number : ℕ) (c : Context) → ContextFits program c → ContextFits program (idle_in program number c)
+  idle_in_fits number c f = with_some_both (ContextFits program) (instance_of number c) (idle program) c f (λ i found. idle_fits i c (found_runs program number i c f found))
 
   -- how a run ends
   pub finished_fits : (i : Instance) (e : End) (c : Context) → RunsIn program i.number i.monitor c → ContextFits program (finished program i e c)

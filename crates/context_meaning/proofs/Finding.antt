@@ -1,6 +1,6 @@
 -- What is found in a list by a test, and instances that are found by their numbers.
 use Rattle.std.proofs.Common.{◌≡◌, ◌∷◌, ◌++◌, if◌then◌else◌, ◌⊎◌}
-use Rattle.context_meaning.proofs.Common.{ℕ, List, [], Bool, true, false, not, Option, Some, None, All, Contains, filter, find, inl, inr, ⊎_elim, refl, sym, ap, subst, ◌∙◌, eqb-true, same_Some, All-contains, All-cons, All-head, All-tail, Value, Instance, is_instance, put_globals}
+use Rattle.context_meaning.proofs.Common.{ℕ, List, [], Bool, true, false, not, Option, Some, None, All, Contains, filter, find, inl, inr, ⊎_elim, refl, sym, ap, subst, ◌∙◌, eqb-true, same_Some, All-contains, All-cons, All-head, All-tail, Value, UnderWay, Instance, Listener, is_born, is_instance, put_expression, put_globals}
 use Rattle.std.proofs.lemmas.Bool.{eq-eqb, both_ways, not-true}
 use Rattle.std.proofs.lemmas.List.Elements.{Contains-append_left, Contains-append_right, Contains-push, filter_passes}
 
@@ -110,3 +110,19 @@ all_step P globals x is js o false p all k h = All-cons P x js p (h k)
 pub all_put : (P : Instance → Type 0) (n : ℕ) (globals : List Value) (is : List Instance) → All P is → ((i : Instance) → find (is_instance n) is ≡ Some i → P (with globals i)) → All P (put_globals n globals is)
 all_put P n globals [] all k = all
 all_put P n globals (x ∷ is) all k = all_step P globals x is (put_globals n globals is) (find (is_instance n) is) (is_instance n x) (All-head P x is all) (All-tail P x is all) k (all_put P n globals is (All-tail P x is all))
+
+-- ---- listeners with other event expressions
+
+-- a listener with another event expression
+abbrev pub moved : UnderWay → Listener → Listener
+moved u l = record l { expression = u }
+
+-- one at the front, which is changed or stays
+put_all_step : (P : Listener → Type 0) (u : UnderWay) (x : Listener) (ls ms : List Listener) (o : Option Listener) (a : Bool) → P x → All P ls → ((l : Listener) → (if a then Some x else o) ≡ Some l → P (moved u l)) → (((l : Listener) → o ≡ Some l → P (moved u l)) → All P ms) → All P (if a then moved u x ∷ ls else x ∷ ms)
+put_all_step P u x ls ms o true p all k h = All-cons P (moved u x) ls (k x refl) all
+put_all_step P u x ls ms o false p all k h = All-cons P x ms p (h k)
+
+-- all keep what holds of them, where it holds of the one that is changed
+pub put_all : (P : Listener → Type 0) (birth : ℕ) (u : UnderWay) (ls : List Listener) → All P ls → ((l : Listener) → find (is_born birth) ls ≡ Some l → P (moved u l)) → All P (put_expression birth u ls)
+put_all P birth u [] all k = all
+put_all P birth u (x ∷ ls) all k = put_all_step P u x ls (put_expression birth u ls) (find (is_born birth) ls) (is_born birth x) (All-head P x ls all) (All-tail P x ls all) k (put_all P birth u ls (All-tail P x ls all))

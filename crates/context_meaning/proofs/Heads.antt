@@ -1,31 +1,20 @@
 -- Which bodies may run in an instance: `onload` and `ondie` of its monitor, and the callbacks of its listeners.
-use Rattle.context_meaning.proofs.Common.{ℕ, zero, suc, List, [], map, length, slice_get, Bool, true, Option, Some, None, refl, sym, ap, subst, ◌∙◌, arith, find, list_all, and_parts, eqb-true, cond_both, same_Some, slice_get_within, Shape, EventShape, Value, Value-F, out-Value, Pair, Program, Action, Monitor, Site, TemplateShape, Term, stands, ends_plain, runs_plain, Typed, default_of, AllFit, fit_nil, fit_cons, default_fits, head_of, Instance, Listener, Stimulus, is_instance, body_number, callback_locals, completes, event_of, template_of, ListenerFits, MayRun, StimulusFits}
-use Rattle.std.proofs.Common.{◌≡◌, ◌+◌, ◌-◌, ◌≤◌, ◌∷◌, ◌++◌, option_map}
+use Rattle.context_meaning.proofs.Common.{ℕ, zero, suc, List, [], map, length, slice_get, Bool, true, Option, Some, None, refl, sym, ap, subst, ◌∙◌, arith, find, list_all, ⊎_elim, and_parts, eqb-true, same_Some, slice_get_within, All-head, All-tail, Shape, EventShape, Value, Program, Action, Monitor, Site, stands, ends_plain, runs_plain, Typed, default_of, AllFit, fit_nil, fit_cons, default_fits, head_of, Binding, CompletionFits, Instance, Listener, is_instance, body_number, callback_locals, ListenerFits, MayRun}
+use Rattle.std.proofs.Common.{◌≡◌, ◌+◌, ◌-◌, ◌≤◌, ◌∷◌, ◌++◌, ◌==◌, option_map}
 use Rattle.std.proofs.lemmas.Bool.{and_from, lt-ltb, le-ltb, cond-true, cond-false}
-use Rattle.std.proofs.lemmas.Option.{slice_get-map, cond_some}
-use Rattle.epl_values.specs.declared.shape.Shape.TheVariants as shape
-use Rattle.epl_values.specs.declared.value.Value.TheOpen as layer
 use Rattle.typed_program.specs.declared.program.Local.{Local}
-use Rattle.typed_program.specs.declared.term.Term.{Term-F, out-Term, map-Term, fold_out-Term}
-use Rattle.typed_program.specs.declared.term.Term.TheOpen as term
-use Rattle.typed_program.specs.Shapes.{same}
 use Rattle.typed_program.specs.Expressions.{if_known}
-use Rattle.typed_program.specs.Terms.{Around, binds_so, fits_term, template_so, term_so}
+use Rattle.typed_program.specs.Terms.{fits_term}
 use Rattle.typed_program.specs.Programs.{is_plain, monitor_so, monitors_so, site_around, site_so}
-use Rattle.value_shapes.specs.Fits.{Fit, IsEvent}
+use Rattle.value_shapes.specs.Fits.{Fit}
 use Rattle.value_shapes.proofs.Lists.{fit_append}
-use Rattle.value_shapes.proofs.Same.{same_is}
 use Rattle.typed_runs.specs.Bodies.{action_head, callback_head}
-use Rattle.context_meaning.specs.Listening.{binds_at, bound_from, is_of_type, is_plain as asks_nothing, plain_in, template_in, type_in}
-use Rattle.context_meaning.specs.declared.context.Stimulus.TheVariants as stimulus
+use Rattle.term_meaning.specs.Operands.{event_of}
+use Rattle.term_shapes.specs.Kept.{BindingFits}
+use Rattle.context_meaning.specs.Listeners.{bound_from, or_default}
+use Rattle.context_meaning.proofs.Finding.{found_case}
 
 -- ---- lists of which all pass a test
-
--- the one at a place passes
-pub at_place : {A : Type 0} (p : A → Bool) (xs : List A) (k : ℕ) (x : A) → list_all p xs ≡ true → slice_get xs k ≡ Some x → p x ≡ true
-at_place p [] k x all h = cc
-at_place p (y ∷ xs) zero x all h = subst (λ z. p z ≡ true) (same_Some y x h) (and_parts (p y) (list_all p xs) all).0
-at_place p (y ∷ xs) (suc k) x all h = at_place p xs k x (and_parts (p y) (list_all p xs) all).1 h
 
 -- those at the front pass
 pub first_all : {A : Type 0} (p : A → Bool) (xs ys : List A) → list_all p (xs ++ ys) ≡ true → list_all p xs ≡ true
@@ -37,41 +26,22 @@ pub last_all : {A : Type 0} (p : A → Bool) (xs ys : List A) → list_all p (xs
 last_all p [] ys h = h
 last_all p (x ∷ xs) ys h = last_all p xs ys (and_parts (p x) (list_all p (xs ++ ys)) h).1
 
--- ---- templates
+-- ---- bound names
 
--- a plain template that is as it should be
-in_plain : (around : Around) (d : Term-F Term) (x : TemplateShape) → term_so around (map-Term Term Bool (fits_term around) d) ≡ true → plain_in d ≡ Some x → template_so around x ≡ true
-in_plain around (term.Template t) x so h = subst (λ y. template_so around y ≡ true) (cond_some (asks_nothing t) t x h).1 so
-in_plain around d x so h = cc
+-- the event that a completion binds to a name has the name's shape
+event_fits : (types : List EventShape) (bound : List Local) (completion : List Binding) (n : ℕ) (e : Value) (b : Local) → CompletionFits types bound completion → event_of n completion ≡ Some e → slice_get bound n ≡ Some b → Fit types e b.shape
+event_fits types bound [] n e b all h there = cc
+event_fits types bound (x ∷ xs) n e b all h there =
+    ⊎_elim (λ k. subst (λ v. Fit types v b.shape) k.1 (All-head (BindingFits types bound) x xs all b (ap (slice_get bound) (eqb-true x.local n k.0) ∙ there)))
+    (λ k. event_fits types bound xs n e b (All-tail (BindingFits types bound) x xs all) k there)
+    (found_case (x.local == n) x.event (event_of n xs) e h)
 
--- the same behind `all`
-in_all : (around : Around) (d : Term-F Term) (x : TemplateShape) → term_so around (map-Term Term Bool (fits_term around) d) ≡ true → template_in d ≡ Some x → template_so around x ≡ true
-in_all around (term.All inner) x so h = in_plain around (out-Term inner) x (sym (fold_out-Term Bool (term_so around) inner) ∙ so) h
-in_all around d x so h = cc
+-- what is bound, or else the default
+either_fits : (types : List EventShape) (s : Shape) (o : Option Value) (other : Value) → ((e : Value) → o ≡ Some e → Fit types e s) → Fit types other s → Fit types (or_default o other) s
+either_fits types s None other h k = k
+either_fits types s (Some e) other h k = h e refl
 
--- the template of a term that is as it should be
-template_there : (around : Around) (t : Term) (x : TemplateShape) → fits_term around t ≡ true → template_of t ≡ Some x → template_so around x ≡ true
-template_there around t x so h = in_all around (out-Term t) x (sym (fold_out-Term Bool (term_so around) t) ∙ so) h
-
--- a bound name is an event of the template's type
-name_shape : (types : List EventShape) (operands : List (Option Shape)) (tenths : List Bool) (event : ℕ) (bs : List Local) (o : Option ℕ) (k : ℕ) (b : Local) → binds_so (record { types = types; operands = operands; tenths = tenths; bound = map (λ c. c.shape) bs }) event o ≡ true → o ≡ Some k → slice_get bs k ≡ Some b → shape.Event event ≡ b.shape
-name_shape types operands tenths event bs None k b so is h = cc
-name_shape types operands tenths event bs (Some n) k b so is h = same_is (shape.Event event) b.shape (subst (λ (s : Option Shape). if_known (same (shape.Event event)) s ≡ true) (slice_get-map (λ (c : Local). c.shape) bs n ∙ ap (option_map (λ (c : Local). c.shape)) (ap (slice_get bs) (same_Some n k is) ∙ h)) so)
-
--- an event that fits a template is of its type
-event_is : (types : List EventShape) (n : ℕ) (v : Value) (l : Value-F Value Pair) → is_of_type n (type_in l) ≡ true → IsEvent types v l → Fit types v (shape.Event n)
-event_is types n v (layer.Event m fields) h f = subst (λ k. Fit types v (shape.Event k)) (eqb-true m n h) f
-event_is types n v l h f = absurd f
-
--- the event of a stimulus that completes a template is of the template's type
-stimulus_is : (types : List EventShape) (t : TemplateShape) (s : Stimulus) → completes t s ≡ true → IsEvent types (event_of s) (out-Value (event_of s)) → Fit types (event_of s) (shape.Event t.event)
-stimulus_is types t (stimulus.Event e) h f = event_is types t.event e (out-Value e) h f
-stimulus_is types t (stimulus.Completed e) h f = cc
-
--- the name that a template binds
-binds_is : (o : Option ℕ) (n : ℕ) → binds_at o n ≡ true → o ≡ Some n
-binds_is None n h = cc
-binds_is (Some m) n h = ap Some (eqb-true m n h)
+-- ---- actions by their numbers
 
 -- an action of this monitor without parameters
 plain_parts : (monitor : ℕ) (params : List Shape) (a : Action) → is_plain monitor params a ≡ true → (params ≡ []) × (a.monitor ≡ monitor)
@@ -127,26 +97,26 @@ module _ (program : Program) (typed : Typed program) where
 
   -- ---- callbacks
 
-  -- the names that a template binds
-  bound_fits : (e : Value) (o : Option ℕ) (n : ℕ) (bs : List Local) → list_all (stands program.types) (map (λ (b : Local). b.shape) bs) ≡ true → ((k : ℕ) (b : Local) → o ≡ Some (n + k) → slice_get bs k ≡ Some b → Fit program.types e b.shape) → AllFit program.types (bound_from program.types o e n bs) (map (λ (b : Local). b.shape) bs)
-  bound_fits e o n [] all known = fit_nil program.types
-  bound_fits e o n (b ∷ bs) all known =
+  -- the values of bound names whose places begin with this one
+  bound_fits : (bound : List Local) (completion : List Binding) (n : ℕ) (bs : List Local) → CompletionFits program.types bound completion → list_all (stands program.types) (map (λ (b : Local). b.shape) bs) ≡ true → ((k : ℕ) (b : Local) → slice_get bs k ≡ Some b → slice_get bound (n + k) ≡ Some b) → AllFit program.types (bound_from program.types completion n bs) (map (λ (b : Local). b.shape) bs)
+  bound_fits bound completion n [] fits all placed = fit_nil program.types
+  bound_fits bound completion n (b ∷ bs) fits all placed =
       let stand = and_parts (stands program.types b.shape) (list_all (stands program.types) (map (λ (c : Local). c.shape) bs)) all in
-      let first : n ≡ n + 0 = omega arith in
-      fit_cons program.types _ (bound_from program.types o e (n + 1) bs) b.shape (map (λ (c : Local). c.shape) bs)
-      (cond_both (binds_at o n) e (default_of program.types b.shape) (λ v. Fit program.types v b.shape) (λ h. known 0 b (binds_is o n h ∙ ap Some first) refl) (λ _. default_fits program typed b.shape stand.0))
-      (bound_fits e o (n + 1) bs stand.1 (λ k c is h. let next : (n + 1) + k ≡ n + suc k = omega arith in known (suc k) c (is ∙ ap Some next) h))
+      let first : n + 0 ≡ n = omega arith in
+      fit_cons program.types _ (bound_from program.types completion (n + 1) bs) b.shape (map (λ (c : Local). c.shape) bs)
+      (either_fits program.types b.shape (event_of n completion) (default_of program.types b.shape) (λ e is. event_fits program.types bound completion n e b fits is (sym (ap (slice_get bound) first) ∙ placed 0 b refl)) (default_fits program typed b.shape stand.0))
+      (bound_fits bound completion (n + 1) bs fits stand.1 (λ k c h. let next : (n + 1) + k ≡ n + suc k = omega arith in ap (slice_get bound) next ∙ placed (suc k) c h))
 
   -- a site that is there is as it should be
   site_there : (n : ℕ) (site : Site) → slice_get program.sites n ≡ Some site → site_so program site ≡ true
   site_there n site h = (typed.sites n site h).shapes
 
-  -- what stands of a site that is as it should be
-  site_parts : (site : Site) → site_so program site ≡ true → (fits_term (site_around program site) site.term ≡ true) × (list_all (stands program.types) (map (λ (b : Local). b.shape) site.bound) ≡ true)
-  site_parts site so =
+  -- the shapes of bound names stand
+  bound_stand : (site : Site) → site_so program site ≡ true → list_all (stands program.types) (map (λ (b : Local). b.shape) site.bound) ≡ true
+  bound_stand site so =
       let most = (and_parts _ _ so).0 in
       let both = and_parts _ (fits_term (site_around program site) site.term) most in
-      (both.1, last_all (stands program.types) (map (λ (c : Local). c.shape) site.captured) (map (λ (b : Local). b.shape) site.bound) (first_all (stands program.types) _ site.locals (and_parts _ _ both.0).1))
+      last_all (stands program.types) (map (λ (c : Local). c.shape) site.captured) (map (λ (b : Local). b.shape) site.bound) (first_all (stands program.types) _ site.locals (and_parts _ _ both.0).1)
 
   -- the head of a callback
   head_callback : (n : ℕ) (site : Site) → slice_get program.sites n ≡ Some site → head_of program (body_number program n) ≡ Some (callback_head site)
@@ -156,21 +126,18 @@ module _ (program : Program) (typed : Typed program) where
       cond-false _ _ _ (le-ltb (length program.actions + n) (length program.actions) past) ∙ ap (option_map callback_head) (ap (slice_get program.sites) back ∙ h)
 
   -- the locals that a callback begins with have the shapes of its parameters
-  locals_of : (site : Site) (captured : List Value) (t : TemplateShape) (s : Stimulus) → site_so program site ≡ true → AllFit program.types captured (map (λ (c : Local). c.shape) site.captured) → template_of site.term ≡ Some t → completes t s ≡ true → StimulusFits program s → AllFit program.types (callback_locals program.types t site captured (event_of s)) (callback_head site).params
-  locals_of site captured t s so held is fit event =
-      let parts = site_parts site so in
-      let around = site_around program site in
-      let binds = (and_parts _ (binds_so around t.event t.binds) (and_parts _ _ (template_there around site.term t parts.0 is)).0).1 in
-      fit_append program.types captured (bound_from program.types t.binds (event_of s) 0 site.bound) (map (λ (c : Local). c.shape) site.captured) (map (λ (b : Local). b.shape) site.bound) held
-      (bound_fits (event_of s) t.binds 0 site.bound parts.1 (λ k b at there. let same : 0 + k ≡ k = omega arith in subst (Fit program.types (event_of s)) (name_shape program.types around.operands around.tenths t.event site.bound t.binds k b binds (at ∙ ap Some same) there) (stimulus_is program.types t s fit event)))
+  locals_of : (site : Site) (captured : List Value) (completion : List Binding) → site_so program site ≡ true → AllFit program.types captured (map (λ (c : Local). c.shape) site.captured) → CompletionFits program.types site.bound completion → AllFit program.types (callback_locals program.types site captured completion) (callback_head site).params
+  locals_of site captured completion so held fits =
+      fit_append program.types captured (bound_from program.types completion 0 site.bound) (map (λ (c : Local). c.shape) site.captured) (map (λ (b : Local). b.shape) site.bound) held
+      (bound_fits site.bound completion 0 site.bound fits (bound_stand site so) (λ k b h. let same : 0 + k ≡ k = omega arith in ap (slice_get site.bound) same ∙ h))
 
-  -- the callback of a listener may run in its instance, with what it took along and the event
-  pub callback_may : (begun : ℕ) (instances : List Instance) (l : Listener) (site : Site) (t : TemplateShape) (s : Stimulus) (i : Instance) → ListenerFits program begun instances l → slice_get program.sites l.site ≡ Some site → template_of site.term ≡ Some t → completes t s ≡ true → StimulusFits program s → find (is_instance l.instance) instances ≡ Some i → MayRun program (body_number program l.site) (callback_locals program.types t site l.captured (event_of s)) i
-  callback_may begun instances l site t s i f there is fit event found =
+  -- the callback of a listener may run in its instance, with what it took along and what a completion binds
+  pub callback_may : (begun : ℕ) (instances : List Instance) (l : Listener) (site : Site) (completion : List Binding) (i : Instance) → ListenerFits program begun instances l → slice_get program.sites l.site ≡ Some site → CompletionFits program.types site.bound completion → find (is_instance l.instance) instances ≡ Some i → MayRun program (body_number program l.site) (callback_locals program.types site l.captured completion) i
+  callback_may begun instances l site completion i f there fits found =
       let one = same_Some f.site site (sym f.there ∙ there) in
       record {
         head = callback_head site;
         is = head_callback l.site site there;
         same = sym (f.monitor i found ∙ ap (λ (o : Site). o.monitor) one);
-        locals_fit = locals_of site l.captured t s (site_there l.site site there) (subst (λ (o : Site). AllFit program.types l.captured (map (λ (c : Local). c.shape) o.captured)) one f.captured) is fit event;
+        locals_fit = locals_of site l.captured completion (site_there l.site site there) (subst (λ (o : Site). AllFit program.types l.captured (map (λ (c : Local). c.shape) o.captured)) one f.captured) fits;
       }

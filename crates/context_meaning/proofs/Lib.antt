@@ -4,6 +4,9 @@ pub mod Finding
 pub mod Running
 pub mod Heads
 pub mod Ending
+pub mod Changing
+pub mod Following
+pub mod Beginning
 pub mod Turning
 pub mod Handling
 pub mod Kept
@@ -15,5 +18,4 @@ pub mod PayingStmts
 pub mod PayingActs
 pub mod Falling
 pub mod Settling
-pub mod Marks
 pub mod Resting

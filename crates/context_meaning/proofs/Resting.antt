@@ -1,10 +1,11 @@
 -- What handlings leave: an empty row, no more fuel, and the same slot and slots.
 use Rattle.std.proofs.Common.{◌≡◌, ◌+◌, ◌*◌, ◌≤◌, ◌∷◌}
-use Rattle.context_meaning.proofs.Common.{ℕ, zero, suc, List, [], nat_lt, refl, ◌∙◌, arith, cond_both, Program, Cargo, Waiting, Context, spend, unless_spent, with_front, cargo_handled, drained, first_handled, front_handled, front_weight, handle, last_number, settled, stimulus_of, thing_handled}
+use Rattle.context_meaning.proofs.Common.{ℕ, zero, suc, List, [], nat_lt, refl, ◌∙◌, arith, cond_both, Program, Cargo, Waiting, Context, row_in_front, spend, unless_spent, with_front, cargo_handled, drained, first_handled, front_handled, front_weight, handle, last_number, load_handled, marks_of, met, settled, thing_handled, timed}
 use Rattle.record_book.specs.declared.cargo.Cargo.TheVariants as cargo
 use Rattle.context_meaning.specs.declared.context.Waiting.TheVariants as waiting
 use Rattle.context_meaning.proofs.Choosing.{unless_both}
-use Rattle.context_meaning.proofs.Falling.{loaded_falls, stimulated_falls}
+use Rattle.context_meaning.proofs.Changing.{load_carries, timed_carries}
+use Rattle.context_meaning.proofs.Falling.{Falls, falls_carries, met_falls}
 use Rattle.context_meaning.proofs.Settling.{first_row}
 
 -- fuel doesn't grow, and the slot and the slots stay
@@ -21,6 +22,10 @@ stays_same c = record { slot = refl; slots = refl; fuel = omega arith }
 pub stays_then : (c d e : Context) → Stays c d → Stays d e → Stays c e
 stays_then c d e a b = record { slot = b.slot ∙ a.slot; slots = b.slots ∙ a.slots; fuel = let x = a.fuel in let y = b.fuel in omega (arith, x, y) }
 
+-- behind what doesn't grow, with its row and marks in front
+row_stays : (marks : List Waiting) (c d : Context) → Falls c d → Stays c (row_in_front marks d)
+row_stays marks c d falls = record { slot = falls.slot; slots = falls.slots; fuel = falls.fuel }
+
 module _ (program : Program) where
   -- ---- the row
 
@@ -32,6 +37,7 @@ module _ (program : Program) where
   pub cargo_row : (load : Cargo) (c : Context) → (cargo_handled program load c).row ≡ []
   cargo_row (cargo.Load monitor) c = refl
   cargo_row (cargo.Event e) c = refl
+  cargo_row (cargo.Time now) c = refl
 
   -- behind the first in front, as often as this
   pub drained_row : (n : ℕ) (c : Context) → c.row ≡ [] → (drained program n c).row ≡ []
@@ -50,12 +56,13 @@ module _ (program : Program) where
 
   -- behind a thing
   pub thing_stays : (w : Waiting) (c : Context) → Stays c (thing_handled program w c)
-  thing_stays w c = let falls = stimulated_falls program (stimulus_of w) c in record { slot = falls.slot; slots = falls.slots; fuel = falls.fuel }
+  thing_stays w c = row_stays (marks_of w) c (met program w c) (met_falls program w c)
 
   -- behind what an entry carries
   pub cargo_stays : (load : Cargo) (c : Context) → Stays c (cargo_handled program load c)
-  cargo_stays (cargo.Load monitor) c = let falls = loaded_falls program monitor c in record { slot = falls.slot; slots = falls.slots; fuel = falls.fuel }
+  cargo_stays (cargo.Load monitor) c = row_stays [] c (load_handled program monitor c) (load_carries program Falls (falls_carries program) monitor c)
   cargo_stays (cargo.Event e) c = thing_stays (waiting.Event e) c
+  cargo_stays (cargo.Time now) c = row_stays [] c (timed program now c) (timed_carries program Falls (falls_carries program) now c)
 
   -- behind the first of these
   front_stays : (ws : List Waiting) (c : Context) → Stays c (front_handled program ws c)

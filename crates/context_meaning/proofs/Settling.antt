@@ -1,8 +1,8 @@
 -- What waits in front is settled: each thing that is handled leaves less of twice the fuel and what waits.
 use Rattle.std.proofs.Common.{◌≡◌, ◌+◌, ◌*◌, ◌<◌, ◌≤◌, ◌∷◌, ◌++◌, if◌then◌else◌, ◌-◌, ◌⊎◌}
-use Rattle.context_meaning.proofs.Common.{ℕ, zero, suc, List, [], length, Bool, true, false, inl, inr, ⊎_elim, refl, sym, ap, ◌∙◌, arith, Program, Waiting, Context, row_in_front, unless_spent, with_front, drained, first_handled, front_handled, front_weight, marks_of, settled, stimulated, stimulus_of, weight_of}
+use Rattle.context_meaning.proofs.Common.{ℕ, zero, suc, List, [], length, Bool, true, false, inl, inr, ⊎_elim, refl, sym, ap, ◌∙◌, arith, Program, Waiting, Context, row_in_front, unless_spent, with_front, drained, first_handled, front_handled, front_weight, marks_of, met, settled, weight_of}
 use Rattle.context_meaning.specs.declared.context.Waiting.TheVariants as waiting
-use Rattle.context_meaning.proofs.Falling.{Falls, stimulated_falls, weight_append}
+use Rattle.context_meaning.proofs.Falling.{Falls, met_falls, weight_append}
 
 -- twice the fuel, and what waits in front
 abbrev pub load_of : Context → ℕ
@@ -27,7 +27,7 @@ fewer w ws c d empty falls =
 module _ (program : Program) where
   -- the first of those that wait, where the row is empty
   pub front_falls : (w : Waiting) (ws : List Waiting) (c : Context) → c.row ≡ [] → load_of (front_handled program (w ∷ ws) c) < 2 * c.fuel + front_weight (w ∷ ws)
-  front_falls w ws c empty = fewer w ws c (stimulated program (stimulus_of w) (with_front ws c)) empty (stimulated_falls program (stimulus_of w) (with_front ws c))
+  front_falls w ws c empty = fewer w ws c (met program w (with_front ws c)) empty (met_falls program w (with_front ws c))
 
   -- the first of some
   some_falls : (ws : List Waiting) (c : Context) → c.row ≡ [] → 0 < length ws → load_of (front_handled program ws c) < 2 * c.fuel + front_weight ws

@@ -7,5 +7,4 @@ pub use Rattle.typed_program.specs.declared.program.Program.{Program}
 pub use Rattle.typed_program.specs.declared.program.Site.{Site}
 pub use Rattle.record_book.specs.declared.cargo.Line.{Line}
 pub use Rattle.context_meaning.specs.declared.context.Instance.{Instance}
-pub use Rattle.context_meaning.specs.declared.context.Listener.{Listener}
 pub use Rattle.context_meaning.specs.declared.context.Waiting.{Waiting}

@@ -1,15 +1,18 @@
 -- Contexts, and the changes that they undergo.
-use Rattle.context_meaning.specs.Common.{ℕ, List, [], Bool, true, false, not, Option, Some, None, find, map, length, Value, Line, Instance, Listener, Waiting}
-use Rattle.std.specs.Prelude.{◌+◌, ◌∷◌, ◌++◌, ◌==◌, if◌then◌else◌, ◌-◌, nat_le, filter}
+use Rattle.context_meaning.specs.Common.{ℕ, List, [], Bool, true, false, not, Option, Some, None, find, map, length, Value, Line, Instance, Waiting}
+use Rattle.context_meaning.specs.Listeners.{Listener}
+use Rattle.term_meaning.specs.UnderWay.{UnderWay}
+use Rattle.std.specs.Prelude.{ℤ, pos, ◌+◌, ◌∷◌, ◌++◌, ◌==◌, if◌then◌else◌, ◌-◌, nat_le, filter}
 use Rattle.std.specs.List.{list_any}
 use Rattle.action_host.specs.Scenes.{Scene}
 
--- A context: its slot, and how many slots there are; the fuel that is left; how many listeners were born and instances begun, and
+-- A context: its slot, and how many slots there are; its clock, in tenths of a second; the fuel that is left; how many listeners were born and instances begun, and
 -- those that live, in that order; what was put in a row while the thing of the moment is handled, and what waits in front; its
 -- lines; whether it is spent.
 pub record Context : Type 0 where
   pub slot : ℕ
   pub slots : ℕ
+  pub clock : ℤ
   pub fuel : ℕ
   pub births : ℕ
   pub begun : ℕ
@@ -22,7 +25,7 @@ pub record Context : Type 0 where
 
 -- before it has handled anything
 abbrev pub fresh : ℕ → ℕ → ℕ → Context
-fresh slot slots fuel = record { slot = slot; slots = slots; fuel = fuel; births = 0; begun = 0; instances = []; listeners = []; row = []; front = []; lines = []; spent = false }
+fresh slot slots fuel = record { slot = slot; slots = slots; clock = pos 0; fuel = fuel; births = 0; begun = 0; instances = []; listeners = []; row = []; front = []; lines = []; spent = false }
 
 -- what a body of it sees; `ondie` is running or not
 abbrev pub scene_of : Bool → Context → Scene
@@ -52,6 +55,11 @@ unless_spent go c = if c.spent then c else go c
 -- what stands behind a charge: nothing more where there is less fuel
 abbrev pub behind_charge : ℕ → (Context → Context) → Context → Context
 behind_charge amount go c = if nat_le amount c.fuel then go (with_fuel (c.fuel - amount) c) else spend c
+
+-- ---- the clock
+
+abbrev pub with_clock : ℤ → Context → Context
+with_clock now c = record c { clock = now }
 
 -- ---- instances
 
@@ -98,8 +106,17 @@ births_in c = map (λ l. l.birth) c.listeners
 abbrev pub is_busy : ℕ → Context → Bool
 is_busy instance c = list_any (is_its instance) c.listeners
 
-abbrev pub with_listener : ℕ → ℕ → List Value → Context → Context
-with_listener instance site captured c = record c { births = c.births + 1; listeners = c.listeners ++ (record { birth = c.births + 1; instance = instance; site = site; captured = captured }) ∷ [] }
+-- a listener is born, the last in order of birth
+abbrev pub with_listener : ℕ → ℕ → List Value → UnderWay → Context → Context
+with_listener instance site captured expression c = record c { births = c.births + 1; listeners = c.listeners ++ (record { birth = c.births + 1; instance = instance; site = site; captured = captured; expression = expression }) ∷ [] }
+
+-- the first listener of this birth gets this event expression
+abbrev pub put_expression : ℕ → UnderWay → List Listener → List Listener
+put_expression birth expression [] = []
+put_expression birth expression (l ∷ ls) = if is_born birth l then (record l { expression = expression }) ∷ ls else l ∷ put_expression birth expression ls
+
+abbrev pub with_expression : ℕ → UnderWay → Context → Context
+with_expression birth expression c = record c { listeners = put_expression birth expression c.listeners }
 
 abbrev pub without_listeners : ℕ → Context → Context
 without_listeners instance c = record c { listeners = filter (λ l. not (is_its instance l)) c.listeners }

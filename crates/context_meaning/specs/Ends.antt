@@ -1,38 +1,47 @@
 -- Effects of bodies, runs of bodies in an instance, and how an instance ends.
 use Rattle.std.specs.Prelude.{◌∷◌, if◌then◌else◌}
-use Rattle.context_meaning.specs.Common.{ℕ, List, [], Bool, true, false, slice_get, Value, Program, Monitor, Instance}
+use Rattle.context_meaning.specs.Common.{ℕ, List, [], Bool, true, false, slice_get, Value, Program, Instance}
 use Rattle.action_host.specs.declared.host.Effect.{Effect}
 use Rattle.action_host.specs.declared.host.Effect.TheVariants as effect
 use Rattle.action_host.specs.declared.host.Fault.{Fault}
 use Rattle.action_host.specs.declared.host.End.{End}
 use Rattle.action_host.specs.declared.host.End.TheVariants as end
 use Rattle.body_meaning.specs.Acts.{Act, act_of}
+use Rattle.term_meaning.specs.UnderWay.{begun_in, setting_of}
 use Rattle.record_book.specs.declared.cargo.Line.TheVariants as line
 use Rattle.context_meaning.specs.declared.context.Waiting.TheVariants as waiting
 use Rattle.context_meaning.specs.Contexts.{Context, scene_of, with_some, spend, with_fuel, unless_spent, instance_of, without_instance, with_globals, is_busy, with_listener, without_listeners, without_birth, with_line, in_row}
 
--- In `ondie` no listener is made. Effects of forms that aren't built yet change nothing.
-abbrev pub apply : ℕ → Bool → Effect → Context → Context
-apply instance ending (effect.Print text) c = with_line (line.Print text) c
-apply instance ending (effect.Log level text) c = with_line (line.Log level text) c
-apply instance ending (effect.Listen site operands captured) c = if ending then c else with_listener instance site captured c
-apply instance ending (effect.Quit birth) c = without_birth birth c
-apply instance ending (effect.Route event) c = in_row (waiting.Event event) c
-apply instance ending other c = c
-
-abbrev pub apply_all : ℕ → Bool → List Effect → Context → Context
-apply_all instance ending [] c = c
-apply_all instance ending (e ∷ es) c = apply_all instance ending es (apply instance ending e c)
-
--- what a run of an instance comes to: its globals, its fuel, and its effects in order
-abbrev pub with_act : ℕ → Bool → Act → Context → Context
-with_act instance ending act c = apply_all instance ending act.effects (with_globals instance act.globals (with_fuel act.scene.fuel c))
-
--- and then what comes behind its end
-abbrev pub come : (Instance → End → Context → Context) → Bool → Instance → Act → Context → Context
-come behind ending i act c = behind i act.end (with_act i.number ending act c)
-
 module _ (program : Program) where
+  -- ---- effects
+
+  -- a listener begins, over the operands as they were at the `on`
+  abbrev pub listening : ℕ → ℕ → List Value → List Value → Context → Context
+  listening instance site operands captured c = with_some (slice_get program.sites site) (λ s d. with_listener instance site captured (begun_in (setting_of program.types s operands d.clock)) d) c
+
+  -- In `ondie` no listener is made. Effects of forms that aren't built yet change nothing.
+  abbrev pub apply : ℕ → Bool → Effect → Context → Context
+  apply instance ending (effect.Print text) c = with_line (line.Print text) c
+  apply instance ending (effect.Log level text) c = with_line (line.Log level text) c
+  apply instance ending (effect.Listen site operands captured) c = if ending then c else listening instance site operands captured c
+  apply instance ending (effect.Quit birth) c = without_birth birth c
+  apply instance ending (effect.Route event) c = in_row (waiting.Event event) c
+  apply instance ending other c = c
+
+  abbrev pub apply_all : ℕ → Bool → List Effect → Context → Context
+  apply_all instance ending [] c = c
+  apply_all instance ending (e ∷ es) c = apply_all instance ending es (apply instance ending e c)
+
+  -- ---- runs
+
+  -- what a run of an instance comes to: its globals, its fuel, and its effects in order
+  abbrev pub with_act : ℕ → Bool → Act → Context → Context
+  with_act instance ending act c = apply_all instance ending act.effects (with_globals instance act.globals (with_fuel act.scene.fuel c))
+
+  -- and then what comes behind its end
+  abbrev pub come : (Instance → End → Context → Context) → Bool → Instance → Act → Context → Context
+  come behind ending i act c = behind i act.end (with_act i.number ending act c)
+
   -- what a body comes to in an instance, over the globals of the instance
   abbrev pub act_in : Bool → ℕ → List Value → Instance → Context → Act
   act_in ending body locals i c = act_of program body i.globals locals (scene_of ending c) []
@@ -44,6 +53,8 @@ module _ (program : Program) where
   -- the line of a fault
   abbrev pub fault_line : Instance → Fault → Context → Context
   fault_line i fault c = with_line (line.Fault i.monitor fault) c
+
+  -- ---- how an instance ends
 
   -- how a run of `ondie` ends: a fault prints its line
   abbrev pub last_run : Instance → End → Context → Context
@@ -63,6 +74,10 @@ module _ (program : Program) where
   -- an instance without a live listener ends
   abbrev pub idle : Instance → Context → Context
   idle i c = if is_busy i.number c then c else ended i c
+
+  -- the same of the instance with this number, where it is there
+  abbrev pub idle_in : ℕ → Context → Context
+  idle_in number c = with_some (instance_of number c) idle c
 
   -- how a run ends
   abbrev pub finished : Instance → End → Context → Context

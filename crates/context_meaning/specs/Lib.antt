@@ -1,6 +1,7 @@
 pub mod Common
 pub mod Contexts
 pub mod Ends
-pub mod Listening
+pub mod Listeners
 pub mod Turns
+pub mod Handling
 pub mod Fits

@@ -1,7 +1,7 @@
 ghost use Rattle.std.specs.Prelude.{◌≡◌, ◌+◌, ◌*◌, ◌<◌, ◌≤◌, [], ℕ, length, true, false};
 ghost use Rattle.typed_program.specs.declared.program.Program.{Program};
 ghost use Rattle.context_meaning.specs.Contexts.{Context};
-ghost use Rattle.context_meaning.specs.Turns.{drained, first_handled, front_weight, settled};
+ghost use Rattle.context_meaning.specs.Handling.{drained, first_handled, front_weight, settled};
 
 /// Twice the fuel with the weight of what waits in front falls with each thing that is handled, so the front settles: handling
 /// the first in front, again and again, while there is one and the context isn't spent, comes to what `settled` says. The row is

@@ -4,5 +4,5 @@
 mod context;
 mod laws;
 
-pub use context::{Instance, Instances, Listener, Listeners, Stimulus, Waiting, Waitings};
+pub use context::{Instance, Instances, Waiting, Waitings};
 pub use laws::front_settles;

@@ -8,6 +8,8 @@ pub enum Cargo {
     Load(u16),
     /// An event.
     Event(Value),
+    /// A time, in tenths of a second.
+    Time(i128),
 }
 
 /// A line that a context prints.
