@@ -128,7 +128,7 @@ given_orderly (answer.Fails why) h = tt
 
 -- the answer to a context that is asked for
 made_orderly : (name : List ℕ) (public : Bool) (scene : Scene) (draws : List ℕ) → AnswersInOrder (reply (effect.MakeContext name public) scene draws).answer
-made_orderly name public scene draws = given_orderly _ (reply_is_lawful (effect.MakeContext name public) scene draws).gives
+made_orderly name public scene draws = given_orderly (reply (effect.MakeContext name public) scene draws).answer (reply_is_lawful (effect.MakeContext name public) scene draws).gives
 
 -- a context with a name
 make_gives : (name : Value) (public : Bool) (s : State) → Gives (make name public s)

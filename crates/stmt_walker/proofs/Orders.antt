@@ -16,6 +16,7 @@ use Rattle.action_host.specs.declared.host.Answer.{Answer}
 use Rattle.action_host.specs.declared.host.Answer.TheVariants as answer
 use Rattle.action_host.specs.declared.host.Effect.{Effect}
 use Rattle.action_host.specs.declared.host.Effect.TheVariants as effect
+use Rattle.action_host.specs.Replies.{Reply, reply}
 use Rattle.action_host.specs.Lawful.{GivesListener}
 use Rattle.action_host.proofs.Replying.{reply_is_lawful}
 use Rattle.action_host.specs.Told.{Told}
@@ -23,7 +24,7 @@ use Rattle.body_meaning.specs.declared.run.Flow.{Flow}
 use Rattle.body_meaning.specs.declared.run.Flow.TheVariants.{Next, Broke, Continued, Returned}
 use Rattle.body_meaning.specs.declared.run.Frame.{Frame}
 use Rattle.body_meaning.specs.Effects.{listen}
-use Rattle.body_meaning.specs.Runs.{State, Did, Outcome, Went, Ended, M, ◌>>◌, behind, then_do, perform, settle}
+use Rattle.body_meaning.specs.Runs.{State, Did, Outcome, Went, Ended, M, ◌>>◌, behind, then_do, perform, replied, settle}
 use Rattle.body_meaning.specs.Statements.{turn_end}
 use Rattle.body_meaning.specs.Values.{items_in, items_of}
 use Rattle.value_steps.specs.Orderly.{IsOrderly, AreOrderly}
@@ -113,9 +114,12 @@ settled_orderly answer.Nothing e s h = absurd h
 settled_orderly (answer.Gives v) e s h = subst IsOrderly (sym h.1) (listener_orderly h.0)
 settled_orderly (answer.Fails why) e s h = absurd h
 
+replied_orderly : (r : Reply) (e : Effect) (frame : Frame) → GivesListener r.answer → OrderlyOutcome (replied r e frame)
+replied_orderly r e frame h = settled_orderly r.answer e (record { scene = r.scene; draws = r.draws; frame = frame }) h
+
 answered_orderly : (n : ℕ) (operands captured : List Value) (s : State) → OrderlyOutcome (perform (effect.Listen n operands captured) s)
 unfolding perform
-answered_orderly n operands captured s = settled_orderly _ (effect.Listen n operands captured) _ (reply_is_lawful (effect.Listen n operands captured) s.scene s.draws).gives
+answered_orderly n operands captured s = replied_orderly (reply (effect.Listen n operands captured) s.scene s.draws) (effect.Listen n operands captured) s.frame (reply_is_lawful (effect.Listen n operands captured) s.scene s.draws).gives
 
 listen_orderly : (n : ℕ) (t : Term) (operands captured : List Value) (s : State) → OrderlyOutcome (listen n t operands captured s)
 unfolding listen ◌>>◌

@@ -6,18 +6,21 @@ use Rattle.epl_values.specs.declared.shape.Shape.TheVariants as shape
 use Rattle.epl_values.specs.declared.value.Value.TheOpen as layer
 use Rattle.epl_values.specs.declared.value.Value.TheVariants as value
 use Rattle.typed_program.specs.declared.term.Term.{Term}
+use Rattle.action_host.specs.declared.host.Effect.{Effect}
 use Rattle.action_host.specs.declared.host.Effect.TheVariants as effect
 use Rattle.action_host.specs.declared.host.Answer.{Answer}
 use Rattle.action_host.specs.declared.host.Answer.TheVariants as answer
+use Rattle.action_host.specs.Replies.{reply}
 use Rattle.action_host.specs.Lawful.{GivesContext, GivesListener}
 use Rattle.action_host.proofs.Replying.{reply_is_lawful}
+use Rattle.body_meaning.specs.Runs.{perform}
 use Rattle.body_meaning.specs.Values.{letters_of}
 use Rattle.body_meaning.specs.Methods.{quit}
 use Rattle.body_meaning.specs.Effects.{print, log, route, send_channel, send_context, send_in, send, taken_along, spawn_here, spawn_there, globals_then, spawn_in, spawn_to, subscribe, unsubscribe, make, make_context, current, listen}
 use Rattle.value_shapes.specs.Fits.{IsEvent}
 use Rattle.value_shapes.proofs.Made.{context_fits, no_context_fits, listener_fits}
 use Rattle.value_shapes.proofs.Emptied.{all_emptied_fits}
-use Rattle.typed_runs.specs.Kept.{SpawnFits}
+use Rattle.typed_runs.specs.Kept.{EffectFits, SpawnFits}
 use Rattle.typed_runs.proofs.Keeping.{Any, AnswerFits, keeps_pure, keeps_given, keeps_look, keeps_charge, keeps_perform, keeps_by_scene, keeps_bind, keeps_seq}
 
 -- of any answer nothing is said
@@ -51,32 +54,36 @@ spawn_fits : (program : Program) (monitor n : ℕ) (action : Action) (arguments 
 spawn_fits program monitor n action arguments globals is own a g = subst (SpawnFits program monitor (taken_along arguments globals)) (sym is) (own, fit_append program.types _ _ action.params (globals_in program monitor) (all_emptied_fits program.types arguments action.params a) (all_emptied_fits program.types globals (globals_in program monitor) g))
 
 module _ {program : Program} {monitor : ℕ} {room : List Shape} where
+  -- an effect of which nothing is said but what it carries
+  keeps_taken : (e : Effect) → EffectFits program monitor e → Keeps program monitor room Any (perform e)
+  keeps_taken e h = keeps_perform e h (λ scene draws. any_fits (reply e scene draws).answer)
+
   -- ---- texts and events
 
   -- a text that is printed
   pub keeps_print : (text : Value) → Keeps program monitor room Any (print text)
   unfolding print
-  keeps_print text = keeps_seq (keeps_charge _) (keeps_perform _ tt (λ scene draws. any_fits _))
+  keeps_print text = keeps_seq (keeps_charge _) (keeps_taken _ tt)
 
   -- a text in the log
   pub keeps_log : (level : ℕ) (text : Value) → Keeps program monitor room Any (log level text)
   unfolding log
-  keeps_log level text = keeps_seq (keeps_charge _) (keeps_perform _ tt (λ scene draws. any_fits _))
+  keeps_log level text = keeps_seq (keeps_charge _) (keeps_taken _ tt)
 
   -- an event that is routed
   pub keeps_route : (event : Value) → IsEvent program.types event (out-Value event) → Keeps program monitor room Any (route event)
   unfolding route
-  keeps_route event is = keeps_seq (keeps_charge _) (keeps_perform _ is (λ scene draws. any_fits _))
+  keeps_route event is = keeps_seq (keeps_charge _) (keeps_taken _ is)
 
   -- an event to a channel
   keeps_send_channel : (event : Value) (channel : List ℕ) → IsEvent program.types event (out-Value event) → Keeps program monitor room Any (send_channel event channel)
   unfolding send_channel
-  keeps_send_channel event channel is = keeps_seq (keeps_by_scene _ (λ scene. keeps_charge _)) (keeps_perform _ is (λ scene draws. any_fits _))
+  keeps_send_channel event channel is = keeps_seq (keeps_by_scene _ (λ scene. keeps_charge _)) (keeps_taken _ is)
 
   -- an event to a context
   keeps_send_context : (event : Value) (slot : ℕ) → IsEvent program.types event (out-Value event) → Keeps program monitor room Any (send_context event slot)
   unfolding send_context
-  keeps_send_context event slot is = keeps_seq (keeps_charge _) (keeps_perform _ is (λ scene draws. any_fits _))
+  keeps_send_context event slot is = keeps_seq (keeps_charge _) (keeps_taken _ is)
 
   -- an event to what a value is
   keeps_send_in : (event : Value) (to : Value-F Value Pair) → IsEvent program.types event (out-Value event) → Keeps program monitor room Any (send_in event to)
@@ -98,12 +105,12 @@ module _ {program : Program} {monitor : ℕ} {room : List Shape} where
     -- a new instance over these globals
     keeps_spawn_here : (globals : List Value) → GlobalsFit program monitor globals → Keeps program monitor room Any (spawn_here n arguments globals)
     unfolding spawn_here
-    keeps_spawn_here globals g = keeps_seq (keeps_charge _) (keeps_perform _ (spawn_fits program monitor n action arguments globals is own fit g) (λ scene draws. any_fits _))
+    keeps_spawn_here globals g = keeps_seq (keeps_charge _) (keeps_taken _ (spawn_fits program monitor n action arguments globals is own fit g))
 
     -- the same in the context of a slot
     keeps_spawn_there : (slot : ℕ) (globals : List Value) → GlobalsFit program monitor globals → Keeps program monitor room Any (spawn_there n arguments slot globals)
     unfolding spawn_there
-    keeps_spawn_there slot globals g = keeps_seq (keeps_charge _) (keeps_perform _ (spawn_fits program monitor n action arguments globals is own fit g) (λ scene draws. any_fits _))
+    keeps_spawn_there slot globals g = keeps_seq (keeps_charge _) (keeps_taken _ (spawn_fits program monitor n action arguments globals is own fit g))
 
     -- a new instance in the same context
     pub keeps_spawn : Keeps program monitor room Any (globals_then (spawn_here n arguments))
@@ -123,16 +130,16 @@ module _ {program : Program} {monitor : ℕ} {room : List Shape} where
   -- a channel that is subscribed
   pub keeps_subscribe : (channel : Value) → Keeps program monitor room Any (subscribe channel)
   unfolding subscribe
-  keeps_subscribe channel = keeps_seq (keeps_by_scene _ (λ scene. keeps_charge _)) (keeps_perform _ tt (λ scene draws. any_fits _))
+  keeps_subscribe channel = keeps_seq (keeps_by_scene _ (λ scene. keeps_charge _)) (keeps_taken _ tt)
 
   -- a channel that isn't any more
   pub keeps_unsubscribe : (channel : Value) → Keeps program monitor room Any (unsubscribe channel)
   unfolding unsubscribe
-  keeps_unsubscribe channel = keeps_perform _ tt (λ scene draws. any_fits _)
+  keeps_unsubscribe channel = keeps_taken _ tt
 
   -- a context with its name
   keeps_make : (name : Value) (public : Bool) → Keeps program monitor room (IsContext program) (make name public)
-  keeps_make name public = keeps_seq (keeps_by_scene _ (λ scene. keeps_charge _)) (keeps_perform _ tt (λ scene draws. context_answered program _ (reply_is_lawful (effect.MakeContext (letters_of name) public) scene draws).gives))
+  keeps_make name public = keeps_seq (keeps_by_scene _ (λ scene. keeps_charge _)) (keeps_perform _ tt (λ scene draws. context_answered program (reply (effect.MakeContext (letters_of name) public) scene draws).answer (reply_is_lawful (effect.MakeContext (letters_of name) public) scene draws).gives))
 
   -- a context that is made
   pub keeps_make_context : (arguments : List Value) → Keeps program monitor room (λ v. Fit program.types v shape.Context) (make_context arguments)
@@ -151,9 +158,9 @@ module _ {program : Program} {monitor : ℕ} {room : List Shape} where
   -- a listener that is made
   pub keeps_listen : (n : ℕ) (t : Term) (operands captured : List Value) → ListenFits program monitor operands captured (slice_get program.sites n) → Keeps program monitor room (λ v. Fit program.types v shape.Listener) (listen n t operands captured)
   unfolding listen
-  keeps_listen n t operands captured h = keeps_seq (keeps_by_scene _ (λ scene. keeps_charge _)) (keeps_perform _ h (λ scene draws. listener_answered program _ (reply_is_lawful (effect.Listen n operands captured) scene draws).gives))
+  keeps_listen n t operands captured h = keeps_seq (keeps_by_scene _ (λ scene. keeps_charge _)) (keeps_perform _ h (λ scene draws. listener_answered program (reply (effect.Listen n operands captured) scene draws).answer (reply_is_lawful (effect.Listen n operands captured) scene draws).gives))
 
   -- a listener that is quit
   pub keeps_quit : (v : Value) → Keeps program monitor room Any (quit v)
   unfolding quit
-  keeps_quit v = keeps_perform _ tt (λ scene draws. any_fits _)
+  keeps_quit v = keeps_taken _ tt
