@@ -1,3 +1,5 @@
+pub mod Counts
 pub mod Scenes
 pub mod Replies
 pub mod Told
+pub mod Lawful

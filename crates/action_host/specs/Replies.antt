@@ -1,13 +1,13 @@
 -- How a context answers the effects of a body.
-use Rattle.std.specs.Prelude.{ℕ, ◌+◌, ◌==◌, nat_lt, Bool, true, false, if◌then◌else◌, List, [], ◌∷◌, ◌++◌}
-use Rattle.std.specs.Str.{bytes_eq}
+use Rattle.std.specs.Prelude.{ℕ, ◌+◌, ◌==◌, nat_lt, Bool, if◌then◌else◌, List, []}
 use Rattle.epl_values.specs.declared.value.Value.TheVariants as value
 use Rattle.action_host.specs.declared.host.Fault.TheVariants as fault
 use Rattle.action_host.specs.declared.host.Effect.{Effect}
 use Rattle.action_host.specs.declared.host.Effect.TheVariants as effect
 use Rattle.action_host.specs.declared.host.Answer.{Answer}
 use Rattle.action_host.specs.declared.host.Answer.TheVariants as answer
-use Rattle.action_host.specs.Scenes.{Scene, subscribed, is_subscription, without, holds}
+use Rattle.action_host.specs.Counts.{counted, uncounted}
+use Rattle.action_host.specs.Scenes.{Scene, holds}
 
 -- an answer, the scene behind it, and the draws that are still to come
 pub record Reply : Type 0 where
@@ -25,16 +25,17 @@ quiet scene draws = replies answer.Nothing scene draws
 abbrev pub listening : Scene → List ℕ → Reply
 listening scene draws = if scene.ending then replies (answer.Gives (value.Listener 0)) scene draws else replies (answer.Gives (value.Listener (scene.births + 1))) (record scene { births = scene.births + 1 }) draws
 
+-- one more
 abbrev pub subscribing : List ℕ → Scene → Scene
-subscribing channel scene = record scene { subscriptions = subscribed channel scene.slot scene.subscriptions; held = scene.held ++ channel ∷ [] }
+subscribing channel scene = record scene { subscriptions = counted channel scene.slot scene.subscriptions; held = counted channel scene.slot scene.held }
 
 -- one less, where one is held
 abbrev pub unsubscribing : List ℕ → Scene → Scene
-unsubscribing channel scene = if holds scene channel then record scene { subscriptions = without (is_subscription channel scene.slot) scene.subscriptions; held = without (λ c. bytes_eq c channel) scene.held } else scene
+unsubscribing channel scene = if holds scene channel then record scene { subscriptions = uncounted channel scene.slot scene.subscriptions; held = uncounted channel scene.slot scene.held } else scene
 
 -- a context that takes events without a channel is subscribed to the empty one
 abbrev pub opening : Bool → ℕ → Scene → Scene
-opening public slot scene = if public then record scene { subscriptions = subscribed [] slot scene.subscriptions } else scene
+opening public slot scene = if public then record scene { subscriptions = counted [] slot scene.subscriptions } else scene
 
 -- the next slot, in the main context, while there is one
 abbrev pub making : Bool → Scene → List ℕ → Reply

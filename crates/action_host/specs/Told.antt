@@ -4,7 +4,7 @@ use Rattle.action_host.specs.declared.host.Effect.{Effect}
 use Rattle.action_host.specs.declared.host.Answer.{Answer}
 use Rattle.action_host.specs.declared.host.Answer.TheVariants as answer
 use Rattle.action_host.specs.Scenes.{Scene, spent_by}
-use Rattle.action_host.specs.Replies.{Reply, replies, reply}
+use Rattle.action_host.specs.Replies.{replies, reply}
 
 -- the scene, the effects taken, and the numbers drawn
 pub record Told : Type 0 where

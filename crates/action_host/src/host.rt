@@ -94,7 +94,7 @@ pub trait Host {
         ensures { result ≡ (told self.now).scene.slot };
 
     /// How many contexts a channel leads to.
-    fn targets(&self, channel: &Text) -> u8
+    fn targets(&self, channel: &Text) -> usize
         ensures { result ≡ count_targets (told self.now).scene channel.now };
 
     /// Whether `ondie` is running.

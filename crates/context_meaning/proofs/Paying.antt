@@ -7,8 +7,9 @@ use Rattle.action_host.specs.declared.host.Fault.{Fault}
 use Rattle.action_host.specs.declared.host.Effect.TheVariants as effect
 use Rattle.action_host.specs.declared.host.Answer.{Answer}
 use Rattle.action_host.specs.declared.host.Answer.TheVariants as answer
-use Rattle.action_host.specs.Scenes.{holds, spent_by}
-use Rattle.action_host.specs.Replies.{Reply, listening, making, opening, reply, unsubscribing}
+use Rattle.action_host.specs.Scenes.{spent_by}
+use Rattle.action_host.specs.Replies.{reply}
+use Rattle.action_host.proofs.Replying.{reply_is_lawful}
 use Rattle.body_meaning.specs.declared.run.Frame.{Frame}
 use Rattle.body_meaning.specs.declared.run.Halt.{Halt}
 use Rattle.body_meaning.specs.Runs.{State, Did, nothing, replied, behind, then_do, ◌>>=◌, ◌>>◌, pure, halt, charge, charge_if, perform, settle, given, looked, look, by_scene, change, changed, choose, all_behind, all, two}
@@ -80,33 +81,6 @@ settle_pays : (weigh : Effect → ℕ) (a : Answer) (e : Effect) (s : State) (fu
 settle_pays weigh answer.Nothing e s fuel h = omega (arith, h)
 settle_pays weigh (answer.Gives v) e s fuel h = omega (arith, h)
 settle_pays weigh (answer.Fails fault) e s fuel h = omega (arith, h)
-
--- ---- answers leave the fuel
-
--- the answer to `Listen`
-listening_fuel : (scene : Scene) (draws : List ℕ) → (listening scene draws).scene.fuel ≡ scene.fuel
-listening_fuel scene draws = cond_both scene.ending _ _ (λ (r : Reply). r.scene.fuel ≡ scene.fuel) (λ _. refl) (λ _. refl)
-
--- a scene with one subscription less
-unsubscribing_fuel : (channel : List ℕ) (scene : Scene) → (unsubscribing channel scene).fuel ≡ scene.fuel
-unsubscribing_fuel channel scene = cond_both (holds scene channel) _ _ (λ (s : Scene). s.fuel ≡ scene.fuel) (λ _. refl) (λ _. refl)
-
--- a scene with one context more
-opening_fuel : (public : Bool) (slot : ℕ) (scene : Scene) → (opening public slot scene).fuel ≡ scene.fuel
-opening_fuel true slot scene = refl
-opening_fuel false slot scene = refl
-
--- the answer to `MakeContext`
-making_fuel : (public : Bool) (scene : Scene) (draws : List ℕ) → (making public scene draws).scene.fuel ≡ scene.fuel
-making_fuel public scene draws = cond_both (nat_lt (scene.made + 1) scene.slots) _ _ (λ (r : Reply). r.scene.fuel ≡ scene.fuel) (λ _. opening_fuel public (scene.made + 1) (record scene { made = scene.made + 1 })) (λ _. refl)
-
--- the answer to any effect
-reply_fuel : (e : Effect) (scene : Scene) (draws : List ℕ) → (reply e scene draws).scene.fuel ≡ scene.fuel
-reply_fuel (effect.Listen site operands captured) scene draws = listening_fuel scene draws
-reply_fuel (effect.Subscribe channel) scene draws = refl
-reply_fuel (effect.Unsubscribe channel) scene draws = unsubscribing_fuel channel scene
-reply_fuel (effect.MakeContext name public) scene draws = cond_both (scene.slot == 0) _ _ (λ (r : Reply). r.scene.fuel ≡ scene.fuel) (λ _. making_fuel public scene draws) (λ _. refl)
-reply_fuel e scene draws = refl
 
 -- ---- single steps
 
@@ -210,7 +184,7 @@ pays_first {weigh} {m = m} h = record { from = λ s. first_charge weigh m (nat_l
 
 -- an effect that weighs so much
 performed_pays : (weigh : Effect → ℕ) (e : Effect) (s : State) (fuel : ℕ) → s.scene.fuel + weigh e ≤ fuel → OutcomePays weigh fuel (replied (reply e s.scene s.draws) e s.frame)
-performed_pays weigh e s fuel h = settle_pays weigh (reply e s.scene s.draws).answer e _ fuel (let same = reply_fuel e s.scene s.draws in omega (arith, h, same))
+performed_pays weigh e s fuel h = settle_pays weigh (reply e s.scene s.draws).answer e _ fuel (let same = (reply_is_lawful e s.scene s.draws).fuel in omega (arith, h, same))
 
 -- an effect that weighs nothing
 pub pays_perform : {weigh : Effect → ℕ} (e : Effect) → weigh e ≡ 0 → Pays weigh (perform e)

@@ -11,7 +11,7 @@ use action_host::{End, Fault};
 use body_runs::BodyRunner;
 use epl_values::{List, Values};
 use live_context::{Lent, LiveContext};
-use plain_host::{Entries, PlainHost};
+use plain_host::PlainHost;
 use record_book::Line;
 use std::alloc::{AllocError, Global};
 use typed_program::Program;
@@ -37,7 +37,7 @@ fn host_of(alloc: Global, context: &LiveContext, ending: bool) -> PlainHost
         fuel: context.fuel(),
         births: context.births(),
         made: 0,
-        subscriptions: Entries::new(alloc),
+        subscriptions: List::new(alloc),
         held: List::new(alloc),
         ending,
         taken: List::new(alloc),

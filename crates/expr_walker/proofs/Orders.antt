@@ -17,7 +17,9 @@ use Rattle.action_host.specs.declared.host.Effect.TheVariants as effect
 use Rattle.action_host.specs.declared.host.Answer.{Answer}
 use Rattle.action_host.specs.declared.host.Answer.TheVariants as answer
 use Rattle.action_host.specs.Scenes.{Scene}
-use Rattle.action_host.specs.Replies.{Reply, reply, making}
+use Rattle.action_host.specs.Replies.{reply}
+use Rattle.action_host.specs.Lawful.{GivesContext}
+use Rattle.action_host.proofs.Replying.{reply_is_lawful}
 use Rattle.action_host.specs.Told.{Told}
 use Rattle.body_meaning.specs.declared.run.Frame.{Frame}
 use Rattle.body_meaning.specs.Runs.{State, Did, Outcome, Went, Ended, M, behind, then_do, settle, ◌>>◌, pure, charge, perform, by_scene}
@@ -118,18 +120,15 @@ gives_settled answer.Nothing e s h = none_orderly
 gives_settled (answer.Gives v) e s h = h
 gives_settled (answer.Fails why) e s h = tt
 
--- one of two replies
-chosen : (b : Bool) (r q : Reply) → AnswersInOrder r.answer → AnswersInOrder q.answer → AnswersInOrder (if b then r else q).answer
-chosen true r q h k = h
-chosen false r q h k = k
+-- an answer that is a context or a fault
+given_orderly : (a : Answer) → GivesContext a → AnswersInOrder a
+given_orderly answer.Nothing h = tt
+given_orderly (answer.Gives v) h = subst IsOrderly (sym h.1) (context_orderly h.0)
+given_orderly (answer.Fails why) h = tt
 
--- the reply to a context that may be made
-making_orderly : (public : Bool) (scene : Scene) (draws : List ℕ) → AnswersInOrder (making public scene draws).answer
-making_orderly public scene draws = chosen (nat_lt (scene.made + 1) scene.slots) _ _ (context_orderly (scene.made + 1)) tt
-
--- the reply to a context that is asked for
+-- the answer to a context that is asked for
 made_orderly : (name : List ℕ) (public : Bool) (scene : Scene) (draws : List ℕ) → AnswersInOrder (reply (effect.MakeContext name public) scene draws).answer
-made_orderly name public scene draws = chosen (scene.slot == 0) _ _ (making_orderly public scene draws) tt
+made_orderly name public scene draws = given_orderly (reply (effect.MakeContext name public) scene draws).answer (reply_is_lawful (effect.MakeContext name public) scene draws).gives
 
 -- a context with a name
 make_gives : (name : Value) (public : Bool) (s : State) → Gives (make name public s)

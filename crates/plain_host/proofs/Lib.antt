@@ -1,1 +1,4 @@
-pub mod Places
+pub mod Changing
+pub mod Halves
+pub mod Leading
+pub mod Placing

@@ -1,7 +1,9 @@
-//! A plain host, for tests: it answers as the scene replies, and keeps the effects that it took.
+//! A plain host: it answers as the scene replies, and keeps the effects that it took.
 #![tactic(auto)]
 
+mod counting;
 mod plain;
 mod state;
 
-pub use state::{Entries, Entry, PlainHost};
+pub use counting::{count_of, count_one, count_targets, uncount_one};
+pub use state::PlainHost;

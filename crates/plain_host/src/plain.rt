@@ -1,13 +1,13 @@
-ghost use Rattle.std.specs.Prelude.{◌≡◌, IfOk, map};
-ghost use Rattle.std.specs.List.{list_any, position};
-ghost use Rattle.action_host.specs.Scenes.{is_target, count_targets, is_subscription, without};
+ghost use Rattle.std.specs.Prelude.{◌≡◌, IfOk};
+ghost use Rattle.action_host.specs.Scenes.{count_targets, holds};
 ghost use Rattle.action_host.specs.Told.{Takes};
 ghost use Rattle.action_host.specs.Replies.{unsubscribing};
-ghost use Rattle.plain_host.specs.Told.{subscription_of, is_held, is_entry, scene_of, told_of, Keeps};
+ghost use Rattle.plain_host.specs.Told.{scene_of, told_of, Keeps};
 
-use crate::state::{Entries, Entry, PlainHost};
+use crate::counting::{count_of, count_one, count_targets, uncount_one};
+use crate::state::PlainHost;
 use action_host::{Answer, Effect, Fault, Host};
-use epl_values::{Text, Texts, Value, Values};
+use epl_values::{Text, Value, Values};
 use std::alloc::AllocError;
 
 impl PlainHost {
@@ -42,13 +42,13 @@ impl PlainHost {
     fn subscribe(&mut self, channel: Text) -> Result<Answer, AllocError>
         ensures { IfOk result (Takes (told_of self.old) (Effect.Subscribe channel) (told_of self.new)) }
     {
-        let again = Text::of(self.alloc, channel.as_str())?;
-        let held = Text::of(self.alloc, channel.as_str())?;
-        self.subscriptions.push(Entry {
-            channel: again,
-            slot: self.slot,
-        })?;
-        self.held.push(held)?;
+        count_one(
+            self.alloc,
+            &mut self.subscriptions,
+            channel.as_str(),
+            self.slot,
+        )?;
+        count_one(self.alloc, &mut self.held, channel.as_str(), self.slot)?;
         self.taken.push(Effect::Subscribe(channel))?;
         Ok(Answer::Nothing)
     }
@@ -64,10 +64,7 @@ impl PlainHost {
         }
         let next = self.made + 1;
         if public {
-            self.subscriptions.push(Entry {
-                channel: Text::new(self.alloc),
-                slot: next,
-            })?;
+            count_one(self.alloc, &mut self.subscriptions, "", next)?;
         }
         self.taken.push(Effect::MakeContext(name, public))?;
         self.made = next;
@@ -81,9 +78,16 @@ impl PlainHost {
         ensures scene { scene_of self.new ≡ unsubscribing channel.now (scene_of self.old) }
         ensures taken { self.new.taken ≡ self.old.taken }
     {
-        if let_held_go(&mut self.held, channel) {
-            let_entry_go(&mut self.subscriptions, channel, self.slot);
+        if self.holds(channel) {
+            uncount_one(self.alloc, &mut self.subscriptions, channel, self.slot);
+            uncount_one(self.alloc, &mut self.held, channel, self.slot);
         }
+    }
+
+    fn holds(&self, channel: &str) -> bool
+        ensures { result ≡ holds (scene_of self.now) channel.now }
+    {
+        0 < count_of(&self.held, channel, self.slot)
     }
 
     fn unsubscribe(&mut self, channel: Text) -> Result<Answer, AllocError>
@@ -94,59 +98,10 @@ impl PlainHost {
         Ok(Answer::Nothing)
     }
 
-    fn leads_to(&self, channel: &str, slot: u8) -> bool
-        ensures { result ≡ is_target (scene_of self.now) channel.now slot }
-    {
-        entry_place(self.subscriptions.as_slice(), channel, slot).is_some()
-    }
-
-    #[tactic(auto, using(crate::proofs::Places::targets_in, crate::proofs::Places::targets_out))]
-    fn count(&self, channel: &str) -> u8
+    fn count(&self, channel: &str) -> usize
         ensures { result ≡ count_targets (scene_of self.now) channel.now }
     {
-        let mut count = 0u8;
-        for slot in 0..self.slots {
-            if self.leads_to(channel, slot) {
-                count += 1;
-            }
-        }
-        count
-    }
-}
-
-fn held_place(held: &[Text], channel: &str) -> Option<usize>
-    ensures { result ≡ position (is_held channel.now) held.now }
-{
-    held.iter().position(|c| c.as_str() == channel)
-}
-
-fn entry_place(entries: &[Entry], channel: &str, slot: u8) -> Option<usize>
-    ensures { result ≡ position (is_entry channel.now slot) entries.now }
-{
-    entries
-        .iter()
-        .position(|e| e.channel.as_str() == channel && e.slot == slot)
-}
-
-/// Lets the first one go, and says whether there was one.
-fn let_held_go(held: &mut Texts, channel: &str) -> bool
-    ensures found { result ≡ list_any (is_held channel.now) held.old }
-    ensures rest { held.new ≡ without (is_held channel.now) held.old }
-{
-    match held_place(held.as_slice(), channel) {
-        Some(at) => {
-            let _gone = held.remove(at);
-            true
-        }
-        None => false,
-    }
-}
-
-fn let_entry_go(entries: &mut Entries, channel: &str, slot: u8)
-    ensures { map subscription_of entries.new ≡ without (is_subscription channel.now slot) (map subscription_of entries.old) }
-{
-    if let Some(at) = entry_place(entries.as_slice(), channel, slot) {
-        let _gone = entries.remove(at);
+        count_targets(&self.subscriptions, channel)
     }
 }
 
@@ -189,7 +144,7 @@ impl Host for PlainHost {
         self.slot
     }
 
-    fn targets(&self, channel: &Text) -> u8 {
+    fn targets(&self, channel: &Text) -> usize {
         self.count(channel.as_str())
     }
 

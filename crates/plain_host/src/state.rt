@@ -1,18 +1,10 @@
 ghost use Rattle.std.specs.Prelude.{◌-◌, ◌^◌, ◌<◌};
+ghost use Rattle.action_host.specs.Counts.{AreCounts};
+ghost use Rattle.plain_host.specs.Props.{counts_prop};
 
-use action_host::Effect;
-use epl_values::{List, Text, Texts};
+use action_host::{Effect, Tallies};
+use epl_values::List;
 use std::alloc::Global;
-
-/// A subscription of a context to a channel.
-#[derive(Drop)]
-pub struct Entry {
-    pub channel: Text,
-    pub slot: u8,
-}
-
-/// Subscriptions, in order.
-pub type Entries = List<Entry>;
 
 /// A host that stands alone.
 #[derive(Drop)]
@@ -23,9 +15,11 @@ pub struct PlainHost {
     pub fuel: u64,
     pub births: u64,
     pub made: u8,
-    pub subscriptions: Entries,
-    pub held: Texts,
+    pub subscriptions: Tallies,
+    pub held: Tallies,
     pub ending: bool,
     pub taken: List<Effect>,
     ghost small: { fuel < 2 ^ 64 - 1 },
+    ghost subscribed: { AreCounts subscriptions } by { counts_prop subscriptions },
+    ghost holding: { AreCounts held } by { counts_prop held },
 }

@@ -12,17 +12,19 @@ use Rattle.epl_values.specs.declared.value.Pair.{Pair}
 use Rattle.typed_program.specs.declared.term.Term.{Term}
 use Rattle.value_rules.specs.Defaults.{default_step, default_by, default_event, default_of}
 use Rattle.event_types.specs.Types.{fields_of}
+use Rattle.action_host.specs.declared.host.Answer.{Answer}
 use Rattle.action_host.specs.declared.host.Answer.TheVariants as answer
 use Rattle.action_host.specs.declared.host.Effect.{Effect}
 use Rattle.action_host.specs.declared.host.Effect.TheVariants as effect
-use Rattle.action_host.specs.Replies.{replies}
-use Rattle.action_host.specs.Scenes.{Scene}
+use Rattle.action_host.specs.Replies.{Reply, reply}
+use Rattle.action_host.specs.Lawful.{GivesListener}
+use Rattle.action_host.proofs.Replying.{reply_is_lawful}
 use Rattle.action_host.specs.Told.{Told}
 use Rattle.body_meaning.specs.declared.run.Flow.{Flow}
 use Rattle.body_meaning.specs.declared.run.Flow.TheVariants.{Next, Broke, Continued, Returned}
 use Rattle.body_meaning.specs.declared.run.Frame.{Frame}
 use Rattle.body_meaning.specs.Effects.{listen}
-use Rattle.body_meaning.specs.Runs.{State, Did, Outcome, Went, Ended, M, ◌>>◌, behind, then_do, perform, replied}
+use Rattle.body_meaning.specs.Runs.{State, Did, Outcome, Went, Ended, M, ◌>>◌, behind, then_do, perform, replied, settle}
 use Rattle.body_meaning.specs.Statements.{turn_end}
 use Rattle.body_meaning.specs.Values.{items_in, items_of}
 use Rattle.value_steps.specs.Orderly.{IsOrderly, AreOrderly}
@@ -106,14 +108,18 @@ unfolding OrderlyOutcome
 then_orderly (Went did x s) n h = behind_orderly did (n s) (h s)
 then_orderly (Ended did why s) n h = tt
 
-listening_orderly : (b : Bool) (scene : Scene) (draws : List ℕ) (e : Effect) (frame : Frame) → OrderlyOutcome (replied (if b then replies (answer.Gives (value.Listener 0)) scene draws else replies (answer.Gives (value.Listener (scene.births + 1))) (record scene { births = scene.births + 1 }) draws) e frame)
+settled_orderly : (a : Answer) (e : Effect) (s : State) → GivesListener a → OrderlyOutcome (settle a e s)
 unfolding OrderlyOutcome
-listening_orderly true scene draws e frame = listener_orderly 0
-listening_orderly false scene draws e frame = listener_orderly (scene.births + 1)
+settled_orderly answer.Nothing e s h = absurd h
+settled_orderly (answer.Gives v) e s h = subst IsOrderly (sym h.1) (listener_orderly h.0)
+settled_orderly (answer.Fails why) e s h = absurd h
+
+replied_orderly : (r : Reply) (e : Effect) (frame : Frame) → GivesListener r.answer → OrderlyOutcome (replied r e frame)
+replied_orderly r e frame h = settled_orderly r.answer e (record { scene = r.scene; draws = r.draws; frame = frame }) h
 
 answered_orderly : (n : ℕ) (operands captured : List Value) (s : State) → OrderlyOutcome (perform (effect.Listen n operands captured) s)
 unfolding perform
-answered_orderly n operands captured s = listening_orderly s.scene.ending s.scene s.draws (effect.Listen n operands captured) s.frame
+answered_orderly n operands captured s = replied_orderly (reply (effect.Listen n operands captured) s.scene s.draws) (effect.Listen n operands captured) s.frame (reply_is_lawful (effect.Listen n operands captured) s.scene s.draws).gives
 
 listen_orderly : (n : ℕ) (t : Term) (operands captured : List Value) (s : State) → OrderlyOutcome (listen n t operands captured s)
 unfolding listen ◌>>◌

@@ -1,15 +1,11 @@
 -- One call behind another, choices and effects.
 use Rattle.std.proofs.Common.{◌≡◌, ◌+◌, ◌∷◌, ◌++◌}
 use Rattle.walk_rules.proofs.Common.{ℕ, Bool, true, false, List, [], Result, Ok, Err, refl, sym, ap, subst, ◌∙◌, arith, append_assoc, Contains, Value, Fault, Effect, Scene, Told, Frame, Halt, Failed, State, Did, M, then_do, choose, Stop, Halted, Memory, state_of, outcome_of, did_of, standing, Ran, Passes, Does, Walks}
-use Rattle.std.specs.Prelude.{if◌then◌else◌, nat_lt, ◌==◌}
 use Rattle.epl_values.specs.declared.value.Value.TheVariants as value
-use Rattle.action_host.specs.declared.host.Fault.TheVariants as fault
-use Rattle.action_host.specs.declared.host.Effect.TheVariants as effect
 use Rattle.action_host.specs.declared.host.Answer.{Answer}
 use Rattle.action_host.specs.declared.host.Answer.TheVariants as answer
-use Rattle.action_host.specs.Scenes.{holds}
-use Rattle.action_host.specs.Replies.{reply, replies, making, opening}
 use Rattle.action_host.specs.Told.{Takes, listed}
+use Rattle.action_host.proofs.Replying.{reply_is_lawful}
 use Rattle.body_meaning.specs.Runs.{and_then, behind, ◌>>=◌, ◌>>◌, pure, two, perform, settle, replied}
 use Rattle.walk_rules.proofs.Frames.{standing_append, contains_behind, contains_then, did_behind}
 use Rattle.walk_rules.proofs.Running.{walks_pure}
@@ -124,41 +120,6 @@ settled_is answer.Nothing e s = refl
 settled_is (answer.Gives v) e s = refl
 settled_is (answer.Fails fault) e s = refl
 
-listening_fuel : (b : Bool) (scene : Scene) (draws : List ℕ) → (if b then replies (answer.Gives (value.Listener 0)) scene draws else replies (answer.Gives (value.Listener (scene.births + 1))) (record scene { births = scene.births + 1 }) draws).scene.fuel ≡ scene.fuel
-listening_fuel true scene draws = refl
-listening_fuel false scene draws = refl
-
-unsubscribing_fuel : (b : Bool) (scene other : Scene) → other.fuel ≡ scene.fuel → (if b then other else scene).fuel ≡ scene.fuel
-unsubscribing_fuel true scene other h = h
-unsubscribing_fuel false scene other h = refl
-
-opening_fuel : (public : Bool) (slot : ℕ) (scene : Scene) → (opening public slot scene).fuel ≡ scene.fuel
-opening_fuel true slot scene = refl
-opening_fuel false slot scene = refl
-
-making_fuel : (b public : Bool) (scene : Scene) (draws : List ℕ) → (if b then replies (answer.Gives (value.Context (scene.made + 1))) (opening public (scene.made + 1) (record scene { made = scene.made + 1 })) draws else replies (answer.Fails fault.TooManyContexts) scene draws).scene.fuel ≡ scene.fuel
-making_fuel true public scene draws = opening_fuel public (scene.made + 1) (record scene { made = scene.made + 1 })
-making_fuel false public scene draws = refl
-
-context_fuel : (b public : Bool) (scene : Scene) (draws : List ℕ) → (if b then making public scene draws else replies (answer.Fails fault.NotMain) scene draws).scene.fuel ≡ scene.fuel
-context_fuel true public scene draws = making_fuel (nat_lt (scene.made + 1) scene.slots) public scene draws
-context_fuel false public scene draws = refl
-
--- an effect takes no fuel
-pub reply_fuel : (e : Effect) (scene : Scene) (draws : List ℕ) → (reply e scene draws).scene.fuel ≡ scene.fuel
-reply_fuel (effect.Print text) scene draws = refl
-reply_fuel (effect.Log level text) scene draws = refl
-reply_fuel (effect.Route event) scene draws = refl
-reply_fuel (effect.SendTo slot event) scene draws = refl
-reply_fuel (effect.SendChannel channel event) scene draws = refl
-reply_fuel (effect.Spawn action along) scene draws = refl
-reply_fuel (effect.SpawnTo action along slot) scene draws = refl
-reply_fuel (effect.Listen site operands captured) scene draws = listening_fuel scene.ending scene draws
-reply_fuel (effect.Quit birth) scene draws = refl
-reply_fuel (effect.Subscribe channel) scene draws = refl
-reply_fuel (effect.Unsubscribe channel) scene draws = unsubscribing_fuel (holds scene channel) scene _ refl
-reply_fuel (effect.MakeContext name public) scene draws = context_fuel (scene.slot == 0) public scene draws
-
 performed : {old new : Told} {e : Effect} {a : Answer} (frame : Frame) → Takes old e new a → Ran (perform e) old frame new frame (settled a)
 unfolding perform
 performed {old} {new} {e} {a} frame h = record {
@@ -167,7 +128,7 @@ performed {old} {new} {e} {a} frame h = record {
   drawn = h.drawn;
   taken = h.taken;
   gives = λ rest. ap (λ r. replied r e frame) (h.gives rest) ∙ settled_is a e (state_of new rest frame);
-  falls = let fuel = sym (ap (λ r. r.scene.fuel) (h.gives [])) ∙ reply_fuel e old.scene (h.new_draws ++ []) in omega (arith, fuel);
+  falls = let fuel = sym (ap (λ r. r.scene.fuel) (h.gives [])) ∙ (reply_is_lawful e old.scene (h.new_draws ++ [])).fuel in omega (arith, fuel);
   stands = refl;
 }
 

@@ -136,7 +136,7 @@ fn send_channel<H: Host>(host: &mut H, event: Value, channel: Text) -> Result<Va
 fn channel_cost<H: Host>(host: &H, event: &Value, channel: &Text) -> u64
     ensures { result ≡ min (2 ^ 64 - 1) (channel_cost event.now channel.now (H.told host.now).scene) }
 {
-    let targets = u64::from(host.targets(channel)).max(1);
+    let targets = (host.targets(channel) as u64).max(1);
     cost(event).saturating_mul(targets)
 }
 

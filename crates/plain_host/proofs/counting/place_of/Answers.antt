@@ -1,0 +1,14 @@
+use Rattle.std.proofs.Common.{rules, sym, ap, subst, ◌∙◌}
+use Rattle.std.proofs.lemmas.List.Sorted.{IsPartitionPoint-from_clause}
+use Rattle.action_host.specs.Counts.{AreCounts}
+use Rattle.plain_host.specs.Places.{in_front, is_before}
+use Rattle.plain_host.proofs.Halves.{before_falls, parted, point}
+use Rattle.plain_host.proofs.counting.place_of.Goals as goal
+
+pub returns-clause-place : goal.returns-clause-place
+returns-clause-place c =
+    let p = is_before c.args.channel.now c.args.slot in
+    let ts = c.as_slice.result.now in
+    let parts = parted p (before_falls c.args.channel.now c.args.slot) ts (subst AreCounts (sym c.as_slice.ensures) c.requires) in
+    let at = IsPartitionPoint-from_clause p ts c.partition_point.result c.partition_point.ensures.partitioned parts (λ a r q h. search rules) in
+    point p ts c.partition_point.result c.partition_point.ensures.bound at ∙ ap (in_front p) c.as_slice.ensures
