@@ -1,16 +1,20 @@
 ghost use Rattle.value_steps.specs.Orderly.{IsOrderly};
 
 use crate::reader::{DEPTH, Reader};
-use crate::values::shown;
+use crate::values::{number_shown, put_number, shown};
 use action_host::Fault;
 use anyhow::{Result, bail};
 use epl_values::{EventShapes, Value};
 use std::alloc::Global;
-use std::fmt::Write;
 use value_steps::{
     at_key, birth, bounded, characters, emptied, follow, has_key, integer, is_text, keys_of,
     letters, natural, negated, part, place_of, size_of, truth,
 };
+
+/// The name of a fault.
+pub fn fault_shown(alloc: Global, fault: Fault) -> Result<String> {
+    Ok(format!(in alloc; "fault {fault:?}")?)
+}
 
 /// The text of a value, or the fault.
 pub fn value_or_fault(
@@ -20,7 +24,7 @@ pub fn value_or_fault(
 ) -> Result<String> {
     match answer {
         Ok(value) => Ok(shown(alloc, &value, types)?),
-        Err(fault) => Ok(format!(in alloc; "fault {fault:?}")?),
+        Err(fault) => fault_shown(alloc, fault),
     }
 }
 
@@ -31,25 +35,25 @@ pub fn with_births(alloc: Global, types: &EventShapes, value: &Value) -> Result<
     match value {
         Value::Sequence(items) => {
             for at in 0..items.len() {
-                write!(text, " {}", birth(items.get(at)))?;
+                put_number(&mut text, " ", birth(items.get(at)))?;
             }
         }
-        _ => write!(text, " {}", birth(value))?,
+        _ => put_number(&mut text, " ", birth(value))?,
     }
     Ok(text)
 }
 
 /// What is read in one value.
-fn of_scalar(alloc: Global, command: &str, value: &Value) -> Result<String> {
+fn of_scalar(alloc: Global, types: &EventShapes, command: &str, value: &Value) -> Result<String> {
     let text = match command {
-        "integer" => format!(in alloc; "{}", integer(value))?,
-        "truth" => format!(in alloc; "{}", truth(value))?,
-        "birth" => format!(in alloc; "{}", birth(value))?,
-        "is_text" => format!(in alloc; "{}", is_text(value))?,
+        "integer" => shown(alloc, &Value::Integer(integer(value)), types)?,
+        "truth" => shown(alloc, &Value::Boolean(truth(value)), types)?,
+        "birth" => number_shown(alloc, birth(value))?,
+        "is_text" => shown(alloc, &Value::Boolean(is_text(value)), types)?,
         "letters" => String::from_str(alloc, letters(value))?,
-        "characters" => format!(in alloc; "{}", characters(letters(value)))?,
+        "characters" => number_shown(alloc, characters(letters(value)) as u64)?,
         "natural" => match natural(integer(value)) {
-            Some(number) => format!(in alloc; "{number}")?,
+            Some(number) => number_shown(alloc, number as u64)?,
             None => String::from_str(alloc, "none")?,
         },
         _ => bail!("no command"),
@@ -66,7 +70,7 @@ fn of_value(alloc: Global, types: &EventShapes, command: &str, value: &Value) ->
         "keys" => Ok(shown(alloc, &keys_of(alloc, value)?, types)?),
         "negate" => value_or_fault(alloc, types, negated(value)),
         "emptied" => with_births(alloc, types, &emptied(alloc, value)?),
-        _ => of_scalar(alloc, command, value),
+        _ => of_scalar(alloc, types, command, value),
     }
 }
 
@@ -93,7 +97,7 @@ fn part_or_fault(
 ) -> Result<String> {
     match answer {
         Ok(value) => Ok(shown(alloc, value, types)?),
-        Err(fault) => Ok(format!(in alloc; "fault {fault:?}")?),
+        Err(fault) => fault_shown(alloc, fault),
     }
 }
 
@@ -127,11 +131,11 @@ pub fn entry(alloc: Global, types: &EventShapes, line: &mut Reader<'_>) -> Resul
     let pairs = line.dictionary(alloc, types)?;
     let key = line.value(alloc, types, DEPTH)?;
     let there = has_key(&pairs, &key);
+    let mut out = shown(alloc, &Value::Boolean(there), types)?;
+    out.push_str(" ")?;
     match at_key(&pairs, &key) {
-        Some(value) => {
-            let text = shown(alloc, value, types)?;
-            Ok(format!(in alloc; "{there} {text}")?)
-        }
-        None => Ok(format!(in alloc; "{there} none")?),
+        Some(value) => out.push_str(shown(alloc, value, types)?.as_str())?,
+        None => out.push_str("none")?,
     }
+    Ok(out)
 }

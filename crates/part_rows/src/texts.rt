@@ -1,5 +1,5 @@
 use crate::reader::Reader;
-use crate::values::shown;
+use crate::values::{number_shown, put_number, shown};
 use anyhow::{Result, bail, ensure};
 use epl_values::{EventShapes, Items, Shape, Text, Value};
 use evt_text::{TextFault, behind_blanks, value_at};
@@ -16,7 +16,9 @@ pub fn spot(alloc: Global, line: &mut Reader<'_>) -> Result<String> {
         "no such place"
     );
     let spot = spot_at(text, at);
-    Ok(format!(in alloc; "{}:{}", spot.line, spot.column)?)
+    let mut out = number_shown(alloc, u64::from(spot.line))?;
+    put_number(&mut out, ":", u64::from(spot.column))?;
+    Ok(out)
 }
 
 /// The lines of a text.
@@ -45,8 +47,9 @@ fn found_shown(
 ) -> Result<String> {
     match found {
         Ok((value, end)) => {
-            let text = shown(alloc, &value, types)?;
-            Ok(format!(in alloc; "{text} to {end}")?)
+            let mut text = shown(alloc, &value, types)?;
+            put_number(&mut text, " to ", end as u64)?;
+            Ok(text)
         }
         Err(fault) => Ok(format!(in alloc; "{fault}")?),
     }
@@ -63,7 +66,7 @@ pub fn read(alloc: Global, line: &mut Reader<'_>) -> Result<String> {
     let found = match kind {
         "integer" => value_at(alloc, text, at, &Shape::Integer, &types),
         "string" => value_at(alloc, text, at, &Shape::Text, &types),
-        _ => bail!("no kind of value: {kind}"),
+        _ => bail!("no such kind of value"),
     };
     found_shown(alloc, &types, found)
 }
