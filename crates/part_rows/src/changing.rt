@@ -40,7 +40,8 @@ pub fn calculate(alloc: Global, types: &EventShapes, line: &mut Reader<'_>) -> R
     let left = line.value(alloc, types, DEPTH)?;
     let operator = operator(line.word())?;
     let right = line.value(alloc, types, DEPTH)?;
-    value_or_fault(alloc, types, calculated(operator, &left, &right))
+    let answer = calculated(operator, &left, &right);
+    Ok(value_or_fault(alloc, types, &answer)?)
 }
 
 /// Whether two values compare so.
@@ -58,7 +59,7 @@ pub fn cut(alloc: Global, types: &EventShapes, line: &mut Reader<'_>) -> Result<
     let to = line.value(alloc, types, DEPTH)?;
     match substring(alloc, &value, &from, &to) {
         Ok(text) => Ok(shown(alloc, &Value::Text(text), types)?),
-        Err(Trouble::Fault(fault)) => fault_shown(alloc, fault),
+        Err(Trouble::Fault(fault)) => Ok(fault_shown(alloc, fault)?),
         Err(Trouble::Memory) => bail!("out of memory"),
     }
 }
@@ -134,7 +135,7 @@ pub fn along(alloc: Global, types: &EventShapes, line: &mut Reader<'_>) -> Resul
     let arguments = line.sequence(alloc, types)?;
     let globals = line.sequence(alloc, types)?;
     let taken = taken_along(alloc, &arguments, &globals)?;
-    with_births(alloc, types, &Value::Sequence(as_elements(alloc, taken)?))
+    Ok(with_births(alloc, types, &Value::Sequence(as_elements(alloc, taken)?))?)
 }
 
 fn seconds(operand: u16) -> Duration {

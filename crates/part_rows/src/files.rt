@@ -38,7 +38,7 @@ fn calls(alloc: Global, line: &mut Reader<'_>) -> Result<Calls> {
 fn bytes_shown(
     alloc: Global,
     types: &EventShapes,
-    answer: Result<Bytes, FileFault>,
+    answer: &Result<Bytes, FileFault>,
 ) -> Result<String> {
     let bytes = match answer {
         Ok(bytes) => bytes,
@@ -72,7 +72,7 @@ pub fn whole<R: Files>(
         }
         _ => bail!("no such shelf"),
     };
-    bytes_shown(alloc, types, answer)
+    bytes_shown(alloc, types, &answer)
 }
 
 fn put_shown(answer: Result<(), WriteFault>) -> &'static str {

@@ -5,31 +5,35 @@ use crate::values::{number_shown, put_number, shown};
 use action_host::Fault;
 use anyhow::{Result, bail};
 use epl_values::{EventShapes, Value};
-use std::alloc::Global;
+use std::alloc::{AllocError, Global};
 use value_steps::{
     at_key, birth, bounded, characters, emptied, follow, has_key, integer, is_text, keys_of,
     letters, natural, negated, part, place_of, size_of, truth,
 };
 
 /// The name of a fault.
-pub fn fault_shown(alloc: Global, fault: Fault) -> Result<String> {
-    Ok(format!(in alloc; "fault {fault:?}")?)
+pub fn fault_shown(alloc: Global, fault: Fault) -> Result<String, AllocError> {
+    format!(in alloc; "fault {fault:?}")
 }
 
 /// The text of a value, or the fault.
 pub fn value_or_fault(
     alloc: Global,
     types: &EventShapes,
-    answer: Result<Value, Fault>,
-) -> Result<String> {
+    answer: &Result<Value, Fault>,
+) -> Result<String, AllocError> {
     match answer {
-        Ok(value) => Ok(shown(alloc, &value, types)?),
-        Err(fault) => fault_shown(alloc, fault),
+        Ok(value) => shown(alloc, value, types),
+        Err(fault) => fault_shown(alloc, *fault),
     }
 }
 
 /// The text of a value, and the births of its elements, or its own where it is no sequence.
-pub fn with_births(alloc: Global, types: &EventShapes, value: &Value) -> Result<String> {
+pub fn with_births(
+    alloc: Global,
+    types: &EventShapes,
+    value: &Value,
+) -> Result<String, AllocError> {
     let mut text = shown(alloc, value, types)?;
     text.push_str(" births")?;
     match value {
@@ -68,8 +72,8 @@ fn of_value(alloc: Global, types: &EventShapes, command: &str, value: &Value) ->
     match command {
         "size" => Ok(shown(alloc, &size_of(value), types)?),
         "keys" => Ok(shown(alloc, &keys_of(alloc, value)?, types)?),
-        "negate" => value_or_fault(alloc, types, negated(value)),
-        "emptied" => with_births(alloc, types, &emptied(alloc, value)?),
+        "negate" => Ok(value_or_fault(alloc, types, &negated(value))?),
+        "emptied" => Ok(with_births(alloc, types, &emptied(alloc, value)?)?),
         _ => of_scalar(alloc, types, command, value),
     }
 }
@@ -87,16 +91,17 @@ pub fn answer(
 
 /// A text as a value, if it isn't too long.
 pub fn bounded_text(alloc: Global, types: &EventShapes, line: &mut Reader<'_>) -> Result<String> {
-    value_or_fault(alloc, types, bounded(line.text(alloc)?))
+    let answer = bounded(line.text(alloc)?);
+    Ok(value_or_fault(alloc, types, &answer)?)
 }
 
 fn part_or_fault(
     alloc: Global,
     types: &EventShapes,
     answer: Result<&Value, Fault>,
-) -> Result<String> {
+) -> Result<String, AllocError> {
     match answer {
-        Ok(value) => Ok(shown(alloc, value, types)?),
+        Ok(value) => shown(alloc, value, types),
         Err(fault) => fault_shown(alloc, fault),
     }
 }
@@ -111,12 +116,12 @@ pub fn part_answer(
     let value = line.value(alloc, types, DEPTH)?;
     let moves = line.moves(alloc, types)?;
     if command == "follow" {
-        return part_or_fault(alloc, types, follow(&value, moves.as_slice()));
+        return Ok(part_or_fault(alloc, types, follow(&value, moves.as_slice()))?);
     }
     let [step] = moves.as_slice() else {
         bail!("a part has a path of one step");
     };
-    part_or_fault(alloc, types, part(&value, step))
+    Ok(part_or_fault(alloc, types, part(&value, step))?)
 }
 
 /// The first place of a value in a sequence.
