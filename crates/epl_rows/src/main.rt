@@ -5,11 +5,11 @@
 mod row;
 mod run;
 
-use anyhow::{Result, anyhow};
+use anyhow::{Context, Result};
 use row::Row;
 use run::run;
 use std::alloc::Global;
-use std::io::{self, BufRead, BufReader, Write};
+use std::io::{self, Write};
 use std::rt::Files;
 
 /// Writes bytes, and ends their last line where it has no end.
@@ -27,7 +27,7 @@ fn tell<R: Files + Print>(rt: &R, alloc: Global, line: &str) -> Result<()> {
         println!(rt; "{line}")?;
         return Ok(());
     }
-    let answer = run(rt, alloc, &Row::from_line(line)?)?;
+    let answer = run(rt, alloc, Row::from_line(line)?)?;
     println!(rt; "$ {line}")?;
     write_bytes(rt, answer.report.as_slice())?;
     write_bytes(rt, answer.message.as_slice())?;
@@ -37,12 +37,11 @@ fn tell<R: Files + Print>(rt: &R, alloc: Global, line: &str) -> Result<()> {
 
 fn main(rt: HostRuntime) -> Result<()> {
     let alloc = rt.alloc();
-    let lines = BufReader::new(alloc, rt.reader())?.lines(alloc);
-    for (at, line) in lines.enumerate() {
+    let mut number: u64 = 0;
+    for line in rt.lines(alloc) {
         let line = line?;
-        if let Err(error) = tell(&rt, alloc, line.as_str()) {
-            return Err(anyhow!("line {}: {error}", at + 1));
-        }
+        number = number.saturating_add(1);
+        tell(&rt, alloc, line.as_str()).context(format_args!("line {number}"))?;
     }
     Ok(())
 }

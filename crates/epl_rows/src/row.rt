@@ -1,23 +1,16 @@
 use anyhow::{Result, bail, ensure};
 
 /// A line of the input: the words of a command, and how its run meets the outside.
-#[derive(Debug, Drop)]
+#[derive(Clone, Copy)]
 pub struct Row<'l> {
-    pub outside: Outside<'l>,
+    /// The same files in memory, and an output in memory, as the row wants them; without them real files, and an output that
+    /// takes all.
+    pub made: Option<Made<'l>>,
     pub words: &'l str,
 }
 
-/// Where a run reads and writes.
-#[derive(Debug, Drop)]
-pub enum Outside<'l> {
-    /// Real files, and an output that takes all.
-    Real,
-    /// The same files in memory, and an output in memory, as a row wants them.
-    Made(Made<'l>),
-}
-
 /// Files and an output in memory. Calls are counted from 1.
-#[derive(Clone, Copy, Debug, Drop)]
+#[derive(Clone, Copy)]
 pub struct Made<'l> {
     pub failing_read: Option<u64>,
     pub failing_write: Option<u64>,
@@ -63,7 +56,7 @@ fn set<'l>(made: &mut Made<'l>, text: &'l str) -> Result<()> {
     } else if let Some(long) = long_in(text) {
         made.long = Some(long);
     } else {
-        bail!("no setting: {text}");
+        bail!("no such setting");
     }
     Ok(())
 }
@@ -81,16 +74,15 @@ impl<'l> Row<'l> {
     /// The row that a line spells: `WORDS`, or `with SETTINGS: WORDS`.
     pub fn from_line(line: &'l str) -> Result<Row<'l>> {
         let Some(rest) = line.strip_prefix("with ") else {
-            let outside = Outside::Real;
             return Ok(Row {
-                outside,
+                made: None,
                 words: line,
             });
         };
         let Some((settings, words)) = rest.split_once(": ") else {
             bail!("no words behind the settings");
         };
-        let outside = Outside::Made(made_by(settings)?);
-        Ok(Row { outside, words })
+        let made = Some(made_by(settings)?);
+        Ok(Row { made, words })
     }
 }

@@ -1,10 +1,10 @@
-use crate::row::{Made, Outside, Row};
+use crate::row::{Made, Row};
 use anyhow::{Result, bail, ensure};
 use correlator_run::correlate_serial;
 use epl_values::{Bytes, List, Text};
 use outside::{
-    Calls, DiskShelf, FileFault, HonestShelf, HonestSink, MemoryShelf, MemorySink, StoredFile,
-    StoredFiles, read_whole,
+    Calls, DiskShelf, FileFault, HonestShelf, HonestSink, MemoryShelf, MemorySink, Shelf, Sink,
+    StoredFile, StoredFiles, read_whole,
 };
 use std::alloc::{AllocError, Global};
 use std::rt::Files;
@@ -53,7 +53,7 @@ fn files<R: Files>(
         match read_whole(alloc, &mut DiskShelf::new(rt), word.as_str(), MOST) {
             Ok(bytes) => files.push(stored(alloc, word.as_str(), bytes)?)?,
             Err(FileFault::Missing) => {}
-            Err(fault) => bail!("{word}: {fault}"),
+            Err(_) => bail!("a file that can't be read"),
         }
     }
     Ok(files)
@@ -82,13 +82,24 @@ fn answered(
     })
 }
 
+/// The status of the top call over any files and outputs.
+fn called<H: Shelf, W: Sink>(
+    alloc: Global,
+    words: &[String],
+    shelf: &mut H,
+    out: &mut W,
+    err: &mut MemorySink,
+) -> u8 {
+    correlate_serial(alloc, words, shelf, out, err).status
+}
+
 /// A run over the files of the folder.
-fn run_real<R: Files>(rt: &R, alloc: Global, words: &[String]) -> Result<Answer> {
+fn run_real<R: Files>(rt: &R, alloc: Global, words: &[String]) -> Result<Answer, AllocError> {
     let mut shelf = DiskShelf::new(rt);
     let mut out = MemorySink::new(alloc, PIECE, List::new(alloc));
     let mut err = MemorySink::new(alloc, PIECE, List::new(alloc));
-    let outcome = correlate_serial(alloc, words, &mut shelf, &mut out, &mut err);
-    Ok(answered(alloc, outcome.status, out.taken(), err.taken())?)
+    let status = called(alloc, words, &mut shelf, &mut out, &mut err);
+    answered(alloc, status, out.taken(), err.taken())
 }
 
 /// A run whose calls of the files and the output fail as planned.
@@ -102,31 +113,34 @@ fn run_planned(
     let mut shelf = MemoryShelf::new(files, calls(alloc, made.failing_read)?);
     let mut out = MemorySink::new(alloc, made.piece, calls(alloc, made.failing_write)?);
     let mut err = MemorySink::new(alloc, PIECE, List::new(alloc));
-    let outcome = correlate_serial(alloc, words, &mut shelf, &mut out, &mut err);
-    Ok(answered(alloc, outcome.status, out.taken(), err.taken())?)
+    let status = called(alloc, words, &mut shelf, &mut out, &mut err);
+    Ok(answered(alloc, status, out.taken(), err.taken())?)
 }
 
 /// A run whose output has room for so many bytes.
-fn run_within(alloc: Global, words: &[String], files: StoredFiles, room: usize) -> Result<Answer> {
+fn run_within(
+    alloc: Global,
+    words: &[String],
+    files: StoredFiles,
+    room: usize,
+) -> Result<Answer, AllocError> {
     let mut shelf = HonestShelf::new(files);
     let mut out = HonestSink::new(alloc);
     out.reserve(room)?;
     let mut err = MemorySink::new(alloc, PIECE, List::new(alloc));
-    let outcome = correlate_serial(alloc, words, &mut shelf, &mut out, &mut err);
-    Ok(answered(alloc, outcome.status, out.taken(), err.taken())?)
+    let status = called(alloc, words, &mut shelf, &mut out, &mut err);
+    answered(alloc, status, out.taken(), err.taken())
 }
 
 /// Runs a row.
-pub fn run<R: Files>(rt: &R, alloc: Global, row: &Row<'_>) -> Result<Answer> {
+pub fn run<R: Files>(rt: &R, alloc: Global, row: Row<'_>) -> Result<Answer> {
     let words = words_of(alloc, row.words)?;
-    match &row.outside {
-        Outside::Real => run_real(rt, alloc, &words),
-        Outside::Made(made) => {
-            let files = files(rt, alloc, &words, made)?;
-            match made.room {
-                Some(room) => run_within(alloc, &words, files, room),
-                None => run_planned(alloc, &words, files, made),
-            }
-        }
+    let Some(made) = row.made else {
+        return Ok(run_real(rt, alloc, &words)?);
+    };
+    let files = files(rt, alloc, &words, &made)?;
+    match made.room {
+        Some(room) => Ok(run_within(alloc, &words, files, room)?),
+        None => run_planned(alloc, &words, files, &made),
     }
 }

@@ -1,6 +1,6 @@
 use crate::reader::{DEPTH, Reader, as_elements};
-use crate::reading::{value_or_fault, with_births};
-use crate::values::shown;
+use crate::reading::{fault_shown, value_or_fault, with_births};
+use crate::values::{number_shown, shown};
 use anyhow::{Result, bail};
 use epl_tree::{Comparison, Operator};
 use epl_values::{EventShapes, Value};
@@ -19,7 +19,7 @@ fn operator(word: &str) -> Result<Operator> {
         "*" => Ok(Operator::Multiply),
         "/" => Ok(Operator::Divide),
         "%" => Ok(Operator::Remainder),
-        _ => bail!("no operator: {word}"),
+        _ => bail!("no such operator"),
     }
 }
 
@@ -31,7 +31,7 @@ fn comparison(word: &str) -> Result<Comparison> {
         "<=" => Ok(Comparison::LessEqual),
         ">" => Ok(Comparison::Greater),
         ">=" => Ok(Comparison::GreaterEqual),
-        _ => bail!("no comparison: {word}"),
+        _ => bail!("no such comparison"),
     }
 }
 
@@ -40,7 +40,8 @@ pub fn calculate(alloc: Global, types: &EventShapes, line: &mut Reader<'_>) -> R
     let left = line.value(alloc, types, DEPTH)?;
     let operator = operator(line.word())?;
     let right = line.value(alloc, types, DEPTH)?;
-    value_or_fault(alloc, types, calculated(operator, &left, &right))
+    let answer = calculated(operator, &left, &right);
+    Ok(value_or_fault(alloc, types, &answer)?)
 }
 
 /// Whether two values compare so.
@@ -58,7 +59,7 @@ pub fn cut(alloc: Global, types: &EventShapes, line: &mut Reader<'_>) -> Result<
     let to = line.value(alloc, types, DEPTH)?;
     match substring(alloc, &value, &from, &to) {
         Ok(text) => Ok(shown(alloc, &Value::Text(text), types)?),
-        Err(Trouble::Fault(fault)) => Ok(format!(in alloc; "fault {fault:?}")?),
+        Err(Trouble::Fault(fault)) => Ok(fault_shown(alloc, fault)?),
         Err(Trouble::Memory) => bail!("out of memory"),
     }
 }
@@ -89,7 +90,12 @@ fn changed(
     let text = shown(alloc, value, types)?;
     match answer {
         Ok(()) => Ok(text),
-        Err(Trouble::Fault(fault)) => Ok(format!(in alloc; "fault {fault:?} {text}")?),
+        Err(Trouble::Fault(fault)) => {
+            let mut told = fault_shown(alloc, fault)?;
+            told.push_str(" ")?;
+            told.push_str(text.as_str())?;
+            Ok(told)
+        }
         Err(Trouble::Memory) => bail!("out of memory"),
     }
 }
@@ -110,7 +116,7 @@ fn method(word: &str) -> Result<Method> {
         "clear" => Ok(Method::Clear),
         "add" => Ok(Method::Add),
         "size" => Ok(Method::Size),
-        _ => bail!("no method: {word}"),
+        _ => bail!("no such method"),
     }
 }
 
@@ -129,7 +135,7 @@ pub fn along(alloc: Global, types: &EventShapes, line: &mut Reader<'_>) -> Resul
     let arguments = line.sequence(alloc, types)?;
     let globals = line.sequence(alloc, types)?;
     let taken = taken_along(alloc, &arguments, &globals)?;
-    with_births(alloc, types, &Value::Sequence(as_elements(alloc, taken)?))
+    Ok(with_births(alloc, types, &Value::Sequence(as_elements(alloc, taken)?))?)
 }
 
 fn seconds(operand: u16) -> Duration {
@@ -162,12 +168,12 @@ fn term(alloc: Global, name: &str) -> Result<Term> {
         "not" => Ok(Term::Not(wait(alloc)?)),
         "group" => Ok(Term::Group(wait(alloc)?, None)),
         "within" => Ok(Term::Group(wait(alloc)?, Some(seconds(1)))),
-        _ => bail!("no event expression: {name}"),
+        _ => bail!("no such event expression"),
     }
 }
 
 /// How many leaves begin where an event expression starts.
 pub fn leaves(alloc: Global, line: &mut Reader<'_>) -> Result<String> {
     let term = term(alloc, line.word())?;
-    Ok(format!(in alloc; "{}", starting(&term))?)
+    Ok(number_shown(alloc, starting(&term))?)
 }

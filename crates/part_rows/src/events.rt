@@ -1,6 +1,6 @@
 use crate::reader::Reader;
 use crate::types::ticks;
-use crate::values::shown;
+use crate::values::{number_shown, shown};
 use anyhow::{Result, ensure};
 use epl_values::{Bytes, EventShapes, List};
 use evt_reader::items;
@@ -18,11 +18,17 @@ pub fn bytes_of<R: Files>(rt: &R, alloc: Global, name: &str) -> Result<Bytes> {
     Ok(read_whole(alloc, &mut DiskShelf::new(rt), name, MOST)?)
 }
 
-fn item_shown(alloc: Global, types: &EventShapes, item: &Item) -> Result<String, AllocError> {
+fn put_item(
+    alloc: Global,
+    out: &mut String,
+    types: &EventShapes,
+    item: &Item,
+) -> Result<(), AllocError> {
     let Item::Event(channel, event) = item;
-    let channel = channel.as_str();
-    let event = shown(alloc, event, types)?;
-    format!(in alloc; "\"{channel}\" {event}")
+    out.push_str("\n= \"")?;
+    out.push_str(channel.as_str())?;
+    out.push_str("\" ")?;
+    out.push_str(shown(alloc, event, types)?.as_str())
 }
 
 /// The items of an event file over `Tick`, one a line, or the line that is refused.
@@ -39,10 +45,10 @@ pub fn items_in<R: Files>(rt: &R, alloc: Global, line: &mut Reader<'_>) -> Resul
         Ok(items) => items,
         Err(fault) => return Ok(format!(in alloc; "{fault}")?),
     };
-    let mut text = format!(in alloc; "{} items", items.len())?;
+    let mut text = number_shown(alloc, items.len() as u64)?;
+    text.push_str(" items")?;
     for item in items.as_slice() {
-        text.push_str("\n= ")?;
-        text.push_str(item_shown(alloc, &program.types, item)?.as_str())?;
+        put_item(alloc, &mut text, &program.types, item)?;
     }
     Ok(text)
 }

@@ -1,6 +1,6 @@
 use crate::events::bytes_of;
 use crate::reader::{DEPTH, Reader};
-use crate::values::shown;
+use crate::values::{number_shown, shown};
 use anyhow::{Result, bail, ensure};
 use epl_values::{Bytes, EventShapes, List, Text, Value};
 use outside::{
@@ -35,23 +35,31 @@ fn calls(alloc: Global, line: &mut Reader<'_>) -> Result<Calls> {
     Ok(calls)
 }
 
-fn bytes_shown(alloc: Global, answer: Result<Bytes, FileFault>) -> Result<String> {
+fn bytes_shown(
+    alloc: Global,
+    types: &EventShapes,
+    answer: &Result<Bytes, FileFault>,
+) -> Result<String> {
     let bytes = match answer {
         Ok(bytes) => bytes,
         Err(fault) => return Ok(format!(in alloc; "{fault}")?),
     };
-    let count = bytes.len();
-    if count > SHOWN {
-        return Ok(format!(in alloc; "{count} bytes")?);
+    let mut out = number_shown(alloc, bytes.len() as u64)?;
+    out.push_str(" bytes")?;
+    if bytes.len() <= SHOWN {
+        out.push_str(" ")?;
+        out.push_str(quoted(alloc, types, bytes.as_slice())?.as_str())?;
     }
-    match str::from_utf8(bytes.as_slice()) {
-        Ok(text) => Ok(format!(in alloc; "{count} bytes \"{text}\"")?),
-        Err(_) => Ok(format!(in alloc; "{count} bytes, no text")?),
-    }
+    Ok(out)
 }
 
 /// A file of the folder or of a shelf in memory, read whole.
-pub fn whole<R: Files>(rt: &R, alloc: Global, line: &mut Reader<'_>) -> Result<String> {
+pub fn whole<R: Files>(
+    rt: &R,
+    alloc: Global,
+    types: &EventShapes,
+    line: &mut Reader<'_>,
+) -> Result<String> {
     let shelf = line.word();
     let name = line.word();
     let most = line.count()?;
@@ -62,9 +70,9 @@ pub fn whole<R: Files>(rt: &R, alloc: Global, line: &mut Reader<'_>) -> Result<S
             let mut shelf = MemoryShelf::new(held(rt, alloc)?, calls(alloc, line)?);
             read_whole(alloc, &mut shelf, name, most)
         }
-        _ => bail!("no shelf: {shelf}"),
+        _ => bail!("no such shelf"),
     };
-    bytes_shown(alloc, answer)
+    bytes_shown(alloc, types, &answer)
 }
 
 fn put_shown(answer: Result<(), WriteFault>) -> &'static str {
@@ -88,23 +96,33 @@ fn put_each<W: Sink>(alloc: Global, sink: &mut W, line: &mut Reader<'_>) -> Resu
     Ok(text)
 }
 
-fn taken_shown(alloc: Global, types: &EventShapes, taken: &[u8]) -> Result<String> {
-    let Ok(text) = str::from_utf8(taken) else {
-        bail!("what was taken is no text");
+/// Bytes as a string of the language.
+fn quoted(alloc: Global, types: &EventShapes, bytes: &[u8]) -> Result<String> {
+    let Ok(text) = str::from_utf8(bytes) else {
+        bail!("the bytes are no text");
     };
     Ok(shown(alloc, &Value::Text(Text::of(alloc, text)?), types)?)
+}
+
+/// What was told of each string, and what was taken of all.
+fn with_taken(
+    alloc: Global,
+    types: &EventShapes,
+    mut told: String,
+    taken: &[u8],
+) -> Result<String> {
+    told.push_str("taken ")?;
+    told.push_str(quoted(alloc, types, taken)?.as_str())?;
+    Ok(told)
 }
 
 /// What a sink in memory takes of strings: `memory PIECE FAILING`, where the sink takes so many bytes at a call.
 pub fn put_in_memory(alloc: Global, types: &EventShapes, line: &mut Reader<'_>) -> Result<String> {
     let piece = line.count()?;
     ensure!(piece > 0, "a piece has at least one byte");
-    let mut failing = List::new(alloc);
-    failing.push(line.count()? as u64)?;
-    let mut sink = MemorySink::new(alloc, piece, failing);
+    let mut sink = MemorySink::new(alloc, piece, calls(alloc, line)?);
     let puts = put_each(alloc, &mut sink, line)?;
-    let taken = taken_shown(alloc, types, sink.taken())?;
-    Ok(format!(in alloc; "{puts}taken {taken}")?)
+    with_taken(alloc, types, puts, sink.taken())
 }
 
 /// What a sink with room for so many bytes takes of strings.
@@ -112,8 +130,7 @@ pub fn put_in_room(alloc: Global, types: &EventShapes, line: &mut Reader<'_>) ->
     let mut sink = HonestSink::new(alloc);
     sink.reserve(line.count()?)?;
     let puts = put_each(alloc, &mut sink, line)?;
-    let taken = taken_shown(alloc, types, sink.taken())?;
-    Ok(format!(in alloc; "{puts}taken {taken}")?)
+    with_taken(alloc, types, puts, sink.taken())
 }
 
 /// Puts strings on the standard output, or a string and then a byte that is no text on the standard error.
@@ -122,19 +139,16 @@ pub fn put_on_stream<R: Print + Eprint>(
     alloc: Global,
     line: &mut Reader<'_>,
 ) -> Result<String> {
-    match line.word() {
-        "output" => {
-            let puts = put_each(alloc, &mut StreamSink::new(rt, false), line)?;
-            Ok(format!(in alloc; "{puts}done")?)
-        }
-        "error" => {
-            let mut sink = StreamSink::new(rt, true);
-            let puts = put_each(alloc, &mut sink, line)?;
-            let last = put_shown(put_all(&mut sink, b"\xff"));
-            Ok(format!(in alloc; "{puts}then {last}")?)
-        }
-        _ => bail!("no stream"),
+    let on_error = line.word() == "error";
+    let mut sink = StreamSink::new(rt, on_error);
+    let mut told = put_each(alloc, &mut sink, line)?;
+    if on_error {
+        told.push_str("then ")?;
+        told.push_str(put_shown(put_all(&mut sink, b"\xff")))?;
+    } else {
+        told.push_str("done")?;
     }
+    Ok(told)
 }
 
 fn pass<G: Gate>(gate: &G) {

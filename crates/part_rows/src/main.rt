@@ -12,11 +12,10 @@ mod theory;
 mod types;
 mod values;
 
-use anyhow::{Result, anyhow, ensure};
+use anyhow::{Context, Result, ensure};
 use epl_values::EventShapes;
 use reader::Reader;
 use std::alloc::Global;
-use std::io::{BufRead, BufReader};
 use std::rt::Files;
 
 /// Rows that change or compute values.
@@ -60,7 +59,7 @@ fn answer<R: Files + Print + Eprint>(
         "blanks" => texts::blanks(alloc, types, line),
         "read" => texts::read(alloc, line),
         "items" => events::items_in(rt, alloc, line),
-        "whole" => files::whole(rt, alloc, line),
+        "whole" => files::whole(rt, alloc, types, line),
         "memory" => files::put_in_memory(alloc, types, line),
         "room" => files::put_in_room(alloc, types, line),
         "stream" => files::put_on_stream(rt, alloc, line),
@@ -93,12 +92,11 @@ fn tell<R: Files + Print + Eprint>(
 fn main(rt: HostRuntime) -> Result<()> {
     let alloc = rt.alloc();
     let types = types::shapes(alloc)?;
-    let lines = BufReader::new(alloc, rt.reader())?.lines(alloc);
-    for (at, line) in lines.enumerate() {
+    let mut number: u64 = 0;
+    for line in rt.lines(alloc) {
         let line = line?;
-        if let Err(error) = tell(&rt, alloc, &types, line.as_str()) {
-            return Err(anyhow!("line {}: {error}", at + 1));
-        }
+        number = number.saturating_add(1);
+        tell(&rt, alloc, &types, line.as_str()).context(format_args!("line {number}"))?;
     }
     Ok(())
 }

@@ -17,7 +17,7 @@ pub const DEPTH: usize = 16;
 const MOST: usize = 64;
 
 /// What is left of a line.
-#[derive(Debug, Drop)]
+#[derive(Drop)]
 pub struct Reader<'t> {
     rest: &'t str,
 }

@@ -1,10 +1,10 @@
 use crate::reader::Reader;
-use crate::values::shown;
+use crate::values::{number_shown, put_number, shown};
 use anyhow::{Result, bail, ensure};
 use epl_values::{EventShapes, Items, Shape, Text, Value};
 use evt_text::{TextFault, behind_blanks, value_at};
 use span_text::{lines_of, spot_at};
-use std::alloc::Global;
+use std::alloc::{AllocError, Global};
 
 /// The line and the column of a place in a text.
 pub fn spot(alloc: Global, line: &mut Reader<'_>) -> Result<String> {
@@ -16,7 +16,9 @@ pub fn spot(alloc: Global, line: &mut Reader<'_>) -> Result<String> {
         "no such place"
     );
     let spot = spot_at(text, at);
-    Ok(format!(in alloc; "{}:{}", spot.line, spot.column)?)
+    let mut out = number_shown(alloc, u64::from(spot.line))?;
+    put_number(&mut out, ":", u64::from(spot.column))?;
+    Ok(out)
 }
 
 /// The lines of a text.
@@ -24,11 +26,20 @@ pub fn lines(alloc: Global, types: &EventShapes, line: &mut Reader<'_>) -> Resul
     let text = line.text(alloc)?;
     let text = text.as_str();
     ensure!(text.len() < 4_294_967_295, "a long text");
+    Ok(lines_shown(alloc, types, text)?)
+}
+
+fn lines_shown(alloc: Global, types: &EventShapes, text: &str) -> Result<String, AllocError> {
     let mut lines = Items::new(alloc);
     for line in lines_of(text) {
-        lines.push(Value::Text(Text::of(alloc, line)?))?;
+        push_text(alloc, &mut lines, line)?;
     }
-    Ok(shown(alloc, &Value::Sequence(lines), types)?)
+    shown(alloc, &Value::Sequence(lines), types)
+}
+
+fn push_text(alloc: Global, items: &mut Items, text: &str) -> Result<(), AllocError> {
+    items.push(Value::Text(Text::of(alloc, text)?))?;
+    Ok(())
 }
 
 /// What follows the blanks.
@@ -41,14 +52,15 @@ pub fn blanks(alloc: Global, types: &EventShapes, line: &mut Reader<'_>) -> Resu
 fn found_shown(
     alloc: Global,
     types: &EventShapes,
-    found: Result<(Value, usize), TextFault>,
-) -> Result<String> {
+    found: &Result<(Value, usize), TextFault>,
+) -> Result<String, AllocError> {
     match found {
         Ok((value, end)) => {
-            let text = shown(alloc, &value, types)?;
-            Ok(format!(in alloc; "{text} to {end}")?)
+            let mut text = shown(alloc, value, types)?;
+            put_number(&mut text, " to ", *end as u64)?;
+            Ok(text)
         }
-        Err(fault) => Ok(format!(in alloc; "{fault}")?),
+        Err(fault) => format!(in alloc; "{fault}"),
     }
 }
 
@@ -63,7 +75,7 @@ pub fn read(alloc: Global, line: &mut Reader<'_>) -> Result<String> {
     let found = match kind {
         "integer" => value_at(alloc, text, at, &Shape::Integer, &types),
         "string" => value_at(alloc, text, at, &Shape::Text, &types),
-        _ => bail!("no kind of value: {kind}"),
+        _ => bail!("no such kind of value"),
     };
-    found_shown(alloc, &types, found)
+    Ok(found_shown(alloc, &types, &found)?)
 }

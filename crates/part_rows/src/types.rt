@@ -3,61 +3,44 @@ ghost use Rattle.std.specs.List.{AllByRecursion};
 ghost use Rattle.event_types.specs.Types.{form_of, types_in};
 ghost use Rattle.evt_text.specs.Forms.{IsName, AreEventTypes};
 
-use epl_values::{EventShape, EventShapes, Field, Fields, List, Shape, Text};
-use sqlite_items::Boxed;
+use crate::reader::{DEPTH, Reader};
+use anyhow::Result;
+use epl_values::{EventShape, EventShapes, Field, List, Shape, Text};
 use std::alloc::{AllocError, Global};
 
-/// The number of the event type `Point`.
-const POINT: u16 = 0;
+/// The event types that rows of values speak of: a name, and each field's name and type.
+const DECLARED: [&str; 3] = [
+    "Point x integer label string",
+    "Route start Point points sequence<Point> open boolean",
+    "Mixed route Route points dictionary<integer,Point> where context waiting listener",
+];
 
-/// The number of the event type `Route`.
-const ROUTE: u16 = 1;
+/// How many fields an event type has at most.
+const MOST: usize = 8;
 
-fn push(alloc: Global, fields: &mut Fields, name: &str, shape: Shape) -> Result<(), AllocError> {
-    let name = Text::of(alloc, name)?;
-    fields.push(Field { name, shape })?;
-    Ok(())
-}
-
-/// `event Point { integer x; string label; }`
-fn point(alloc: Global) -> Result<EventShape, AllocError> {
+/// The event type that a text declares over these ones.
+fn declared(alloc: Global, types: &EventShapes, text: &str) -> Result<EventShape> {
+    let mut line = Reader::new(text);
+    let name = Text::of(alloc, line.word())?;
     let mut fields = List::new(alloc);
-    push(alloc, &mut fields, "x", Shape::Integer)?;
-    push(alloc, &mut fields, "label", Shape::Text)?;
-    let name = Text::of(alloc, "Point")?;
-    Ok(EventShape { name, fields })
-}
-
-/// `event Route { Point start; sequence<Point> points; boolean open; }`
-fn route(alloc: Global) -> Result<EventShape, AllocError> {
-    let mut fields = List::new(alloc);
-    push(alloc, &mut fields, "start", Shape::Event(POINT))?;
-    let element = Boxed::new(alloc, Shape::Event(POINT))?;
-    push(alloc, &mut fields, "points", Shape::Sequence(element))?;
-    push(alloc, &mut fields, "open", Shape::Boolean)?;
-    let name = Text::of(alloc, "Route")?;
-    Ok(EventShape { name, fields })
-}
-
-/// `event Mixed { Route route; dictionary<integer,Point> points; context where; listener waiting; }`
-fn mixed(alloc: Global) -> Result<EventShape, AllocError> {
-    let mut fields = List::new(alloc);
-    push(alloc, &mut fields, "route", Shape::Event(ROUTE))?;
-    let key = Boxed::new(alloc, Shape::Integer)?;
-    let value = Boxed::new(alloc, Shape::Event(POINT))?;
-    push(alloc, &mut fields, "points", Shape::Dictionary(key, value))?;
-    push(alloc, &mut fields, "where", Shape::Context)?;
-    push(alloc, &mut fields, "waiting", Shape::Listener)?;
-    let name = Text::of(alloc, "Mixed")?;
+    for _ in 0..MOST {
+        if line.is_done() {
+            break;
+        }
+        let name = Text::of(alloc, line.word())?;
+        let shape = line.shape(alloc, types, DEPTH)?;
+        fields.push(Field { name, shape })?;
+    }
     Ok(EventShape { name, fields })
 }
 
 /// The event types that rows of values speak of: `Point`, `Route` and `Mixed`.
-pub fn shapes(alloc: Global) -> Result<EventShapes, AllocError> {
+pub fn shapes(alloc: Global) -> Result<EventShapes> {
     let mut types = List::new(alloc);
-    types.push(point(alloc)?)?;
-    types.push(route(alloc)?)?;
-    types.push(mixed(alloc)?)?;
+    for text in DECLARED {
+        let event = declared(alloc, &types, text)?;
+        types.push(event)?;
+    }
     Ok(types)
 }
 
