@@ -1,6 +1,5 @@
 -- Statements that aren't built: `spawn`, `route`, `send` and `monitor.`. What stands inside of them isn't looked at.
 use Rattle.std.specs.Prelude.{List, [], ◌∷◌, ◌++◌, map, Option, Some, None}
-use Rattle.span_text.specs.declared.spot.Spot.{Spot}
 use Rattle.epl_tree.specs.declared.statement.Place.{Place}
 use Rattle.epl_tree.specs.declared.statement.Stmt.{Stmt, Stmt-F, fold-Stmt}
 use Rattle.epl_tree.specs.declared.statement.StmtNode.{StmtNode-F}
