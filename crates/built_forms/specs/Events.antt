@@ -1,6 +1,6 @@
 -- Forms that aren't built inside of event expressions: those in the operands of constraints and in durations, in the order of
 -- the source.
-use Rattle.std.specs.Prelude.{List, [], ◌++◌, map, Option, Some, None}
+use Rattle.std.specs.Prelude.{[], ◌++◌, map, Option, Some, None}
 use Rattle.epl_tree.specs.declared.event.Constraint.{Constraint}
 use Rattle.epl_tree.specs.declared.event.ConstraintNode.{ConstraintNode}
 use Rattle.epl_tree.specs.declared.event.ConstraintNode.TheVariants as constraint

@@ -1,4 +1,4 @@
-ghost use Rattle.std.specs.Prelude.{◌≡◌, ◌++◌, map};
+ghost use Rattle.std.specs.Prelude.{◌≡◌, map};
 ghost use Rattle.built_forms.specs.Rows.{joined, behind};
 ghost use Rattle.built_forms.specs.Events.{missing_in_range, missing_in_constraint, missing_in_duration, missing_in_deadline, missing_in_clause, missing_in_template, missing_in_event};
 
