@@ -41,6 +41,10 @@ behind_none : (o : Option Spot) → behind o [] ≡ o
 behind_none None = refl
 behind_none (Some s) = refl
 
+-- no form is found in what has no parts
+pub no_part : (found : Option Spot) → found ≡ behind found []
+no_part found = sym (behind_none found)
+
 -- no part of a list is left
 pub all_parts : {A : Type 0} (f : A → List Spot) (found total : Option Spot) (xs : List A) (i : ℕ) → length xs ≤ i → behind found (joined (map f (drop i xs))) ≡ total → found ≡ total
 all_parts {A = A} f found total xs i past h =
@@ -48,7 +52,7 @@ all_parts {A = A} f found total xs i past h =
     ∙ ap (λ (l : List A). behind found (joined (map f l))) (sym (drop_all i xs past))
     ∙ h
 
-pub ruleset rows = (in_row, in_pair, in_three, next_part, all_parts)
+pub ruleset rows = (in_row, in_pair, in_three, next_part, all_parts, no_part)
 
 -- the first form of a file is the first of all
 first_here : (place : ℕ) (spot : Spot) (xs : List Spot) (ys : List (ℕ × Spot)) → Some spot ≡ first_of xs → first_of (map (in_file place) xs ++ ys) ≡ Some (place, spot)

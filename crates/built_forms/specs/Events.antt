@@ -1,55 +1,74 @@
--- Event expressions that aren't built: all but `all T()` and `all T() as NAME`.
-use Rattle.std.specs.Prelude.{Bool, true, false, ◌&&◌, List, [], ◌∷◌, if◌then◌else◌}
-use Rattle.std.specs.List.{list_all}
-use Rattle.span_text.specs.declared.spot.Spot.{Spot}
-use Rattle.epl_tree.specs.declared.event.EventExpr.{EventExpr, out-EventExpr}
-use Rattle.epl_tree.specs.declared.event.EventNode.{EventNode, out-EventNode}
-use Rattle.epl_tree.specs.declared.event.EventNode.TheOpen.{EventNode-F}
+-- Forms that aren't built inside of event expressions: those in the operands of constraints and in durations, in the order of
+-- the source.
+use Rattle.std.specs.Prelude.{[], ◌++◌, map, Option, Some, None}
 use Rattle.epl_tree.specs.declared.event.Constraint.{Constraint}
-use Rattle.epl_tree.specs.declared.event.Mode.{Mode}
-use Rattle.epl_tree.specs.declared.event.Mode.TheVariants as mode
+use Rattle.epl_tree.specs.declared.event.ConstraintNode.{ConstraintNode}
+use Rattle.epl_tree.specs.declared.event.ConstraintNode.TheVariants as constraint
+use Rattle.epl_tree.specs.declared.event.Duration.{Duration}
+use Rattle.epl_tree.specs.declared.event.DurationNode.{DurationNode}
+use Rattle.epl_tree.specs.declared.event.DurationNode.TheVariants as duration
+use Rattle.epl_tree.specs.declared.event.EventExpr.{EventExpr, EventExpr-F, fold-EventExpr}
+use Rattle.epl_tree.specs.declared.event.EventNode.{EventNode-F}
+use Rattle.epl_tree.specs.declared.event.EventNode.TheOpen as node
+use Rattle.epl_tree.specs.declared.event.Range.{Range}
 use Rattle.epl_tree.specs.declared.event.Template.{Template}
 use Rattle.epl_tree.specs.declared.event.TemplateClause.{TemplateClause}
 use Rattle.epl_tree.specs.declared.event.TemplateClause.TheVariants as clause
-use Rattle.built_forms.specs.Expressions.{Spots}
+use Rattle.built_forms.specs.Rows.{joined}
+use Rattle.built_forms.specs.Expressions.{Spots, missing_in}
 
--- neither `unmatched` nor `completed`
-abbrev pub is_ordinary : Mode → Bool
-is_ordinary mode.Ordinary = true
-is_ordinary other = false
+-- the lower end, and then the upper one
+abbrev pub missing_in_range : Range → Spots
+missing_in_range range = missing_in range.low.bound ++ missing_in range.high.bound
 
--- `as`, and not `within`
-abbrev pub is_as : TemplateClause → Bool
-is_as (clause.As name) = true
-is_as (clause.Within d) = false
+-- what a constraint asks
+abbrev pub constraint_node : ConstraintNode → Spots
+constraint_node constraint.Any = []
+constraint_node (constraint.Equals operand) = missing_in operand
+constraint_node (constraint.Compares c operand) = missing_in operand
+constraint_node (constraint.Lies range) = missing_in_range range
+constraint_node (constraint.NamedCompares field c operand) = missing_in operand
+constraint_node (constraint.NamedLies field range) = missing_in_range range
 
--- without constraints
-abbrev pub is_free : List Constraint → Bool
-is_free [] = true
-is_free (c ∷ cs) = false
+abbrev pub missing_in_constraint : Constraint → Spots
+missing_in_constraint c = constraint_node c.node
 
--- a template without constraints, behind which nothing but `as` follows
-abbrev pub is_bare : Template → Bool
-is_bare t = is_free t.constraints && list_all is_as t.clauses
+-- what is written for a duration
+abbrev pub duration_node : DurationNode → Spots
+duration_node (duration.Decimal text) = []
+duration_node (duration.Seconds operand) = missing_in operand
 
--- `T()` or `T() as NAME`
-abbrev pub is_plain : Template → Bool
-is_plain t = is_ordinary t.mode && is_bare t
+abbrev pub missing_in_duration : Duration → Spots
+missing_in_duration d = duration_node d.node
 
--- what stands behind `all`: a plain template, or a form that isn't built
-abbrev pub operand_node : EventNode-F EventNode EventExpr → Spot → Spots
-operand_node (EventNode-F.Template t) spot = if is_plain t then [] else spot ∷ []
-operand_node other spot = spot ∷ []
+-- of a duration that may be left out
+abbrev pub missing_in_deadline : Option Duration → Spots
+missing_in_deadline None = []
+missing_in_deadline (Some d) = missing_in_duration d
 
--- the same of its tree
-abbrev pub missing_in_operand : EventExpr → Spots
-missing_in_operand e = operand_node (out-EventNode (out-EventExpr e).node) (out-EventExpr e).spot
+abbrev pub missing_in_clause : TemplateClause → Spots
+missing_in_clause (clause.As name) = []
+missing_in_clause (clause.Within d) = missing_in_duration d
 
--- what stands behind `on`: an `all`, or a form that isn't built
-abbrev pub event_node : EventNode-F EventNode EventExpr → Spot → Spots
-event_node (EventNode-F.All operand) spot = missing_in_operand operand
-event_node other spot = spot ∷ []
+-- the constraints, and then what follows them
+abbrev pub missing_in_template : Template → Spots
+missing_in_template t = joined (map missing_in_constraint t.constraints) ++ joined (map missing_in_clause t.clauses)
 
--- the same of its tree
+-- the parts of an event expression in their order
+abbrev pub event_node : EventNode-F Spots Spots → Spots
+event_node (node.Followed first rest) = first ++ joined rest
+event_node (node.Or first rest) = first ++ joined rest
+event_node (node.Xor first rest) = first ++ joined rest
+event_node (node.And first rest) = first ++ joined rest
+event_node (node.All operand) = operand
+event_node (node.Not operand) = operand
+event_node (node.Group inner within) = inner ++ missing_in_deadline within
+event_node (node.Wait d) = missing_in_duration d
+event_node (node.Template t) = missing_in_template t
+
+abbrev pub event_step : EventExpr-F Spots Spots → Spots
+event_step e = e.node
+
+-- the forms in an event expression that aren't built
 abbrev pub missing_in_event : EventExpr → Spots
-missing_in_event e = event_node (out-EventNode (out-EventExpr e).node) (out-EventExpr e).spot
+missing_in_event = fold-EventExpr Spots Spots event_node event_step

@@ -1,7 +1,6 @@
--- Forms of expressions that aren't built: `context`, and the method `quit`. Each is listed by the spot of its first token, in
--- the order of the source; what stands inside of it isn't looked at.
-use Rattle.std.specs.Prelude.{List, [], ◌∷◌, ◌++◌, codes, if◌then◌else◌, Option, Some, None}
-use Rattle.std.specs.Str.{bytes_eq}
+-- Forms of expressions that aren't built: `context(..)` and `context.current()`. Each is listed by the spot of its first token,
+-- in the order of the source; what stands inside of it isn't looked at.
+use Rattle.std.specs.Prelude.{List, [], ◌∷◌, ◌++◌, Option, Some, None}
 use Rattle.span_text.specs.declared.spot.Spot.{Spot}
 use Rattle.epl_tree.specs.declared.expression.Expr.{Expr, Expr-F, fold-Expr}
 use Rattle.epl_tree.specs.declared.expression.ExprNode.{ExprNode-F}
@@ -43,10 +42,10 @@ expr_node (expr.Context args) spot = spot ∷ []
 expr_node expr.ContextCurrent spot = spot ∷ []
 expr_node (expr.Group part) spot = part
 
--- the method `quit` is itself such a form
+-- the arguments of a method, and the place in brackets
 abbrev pub suffix_node : SuffixNode-F At At Spots Spots Spots Spots → At
 suffix_node (expr.Field text) spot = []
-suffix_node (expr.Method text args) spot = if bytes_eq text (codes "quit") then spot ∷ [] else joined args
+suffix_node (expr.Method text args) spot = joined args
 suffix_node (expr.Index part) spot = part
 
 -- the key, and then the value

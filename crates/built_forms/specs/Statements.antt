@@ -1,7 +1,5 @@
--- Statements that aren't built: `spawn`, `route`, `send` and `monitor.`, and `on` where a value stands. A statement's own spot
--- is that of its first token, so it stands before those of its parts.
+-- Statements that aren't built: `spawn`, `route`, `send` and `monitor.`. What stands inside of them isn't looked at.
 use Rattle.std.specs.Prelude.{List, [], ◌∷◌, ◌++◌, map, Option, Some, None}
-use Rattle.span_text.specs.declared.spot.Spot.{Spot}
 use Rattle.epl_tree.specs.declared.statement.Place.{Place}
 use Rattle.epl_tree.specs.declared.statement.Stmt.{Stmt, Stmt-F, fold-Stmt}
 use Rattle.epl_tree.specs.declared.statement.StmtNode.{StmtNode-F}
@@ -10,11 +8,6 @@ use Rattle.epl_tree.specs.declared.statement.Listening.{Listening, Listening-F, 
 use Rattle.built_forms.specs.Rows.{joined}
 use Rattle.built_forms.specs.Expressions.{Spots, At, missing_in, missing_in_suffix, missing_in_optional}
 use Rattle.built_forms.specs.Events.{missing_in_event}
-
--- a listener: its own spot, and those of its parts
-pub record OnSpots : Type 0 where
-  pub spot : Spot
-  pub parts : Spots
 
 -- what is assigned: its steps
 abbrev pub missing_in_place : Place → Spots
@@ -26,14 +19,14 @@ if_any None = []
 if_any (Some spots) = spots
 
 -- the parts of a statement in their order, or the statement itself
-abbrev pub stmt_node : StmtNode-F At OnSpots Spots → At
+abbrev pub stmt_node : StmtNode-F At Spots Spots → At
 stmt_node (stmt.Block parts) spot = joined parts
-stmt_node (stmt.On on) spot = on.parts
+stmt_node (stmt.On on) spot = on
 stmt_node (stmt.Declare type name) spot = []
 stmt_node (stmt.DeclareAs type name value) spot = missing_in value
-stmt_node (stmt.DeclareOn type name on) spot = on.spot ∷ []
+stmt_node (stmt.DeclareOn type name on) spot = on
 stmt_node (stmt.Assign place value) spot = missing_in_place place ++ missing_in value
-stmt_node (stmt.AssignOn place on) spot = missing_in_place place ++ (on.spot ∷ [])
+stmt_node (stmt.AssignOn place on) spot = missing_in_place place ++ on
 stmt_node (stmt.If test part other) spot = missing_in test ++ (part ++ if_any other)
 stmt_node (stmt.While test parts) spot = missing_in test ++ joined parts
 stmt_node (stmt.For name items parts) spot = missing_in items ++ joined parts
@@ -50,20 +43,20 @@ stmt_node (stmt.Monitor text args) spot = spot ∷ []
 stmt_node (stmt.Call e) spot = missing_in e
 
 -- the event expression, and the callback behind it
-abbrev pub listening_step : Listening-F At OnSpots Spots → OnSpots
-listening_step on = record { spot = on.spot; parts = missing_in_event on.event ++ on.callback }
+abbrev pub listening_step : Listening-F At Spots Spots → Spots
+listening_step on = missing_in_event on.event ++ on.callback
 
 -- a statement by its node
-abbrev pub stmt_step : Stmt-F At OnSpots Spots → Spots
+abbrev pub stmt_step : Stmt-F At Spots Spots → Spots
 stmt_step s = s.node s.spot
 
 -- the forms in a statement that aren't built
 abbrev pub missing_in_stmt : Stmt → Spots
-missing_in_stmt = fold-Stmt At OnSpots Spots stmt_node listening_step stmt_step
+missing_in_stmt = fold-Stmt At Spots Spots stmt_node listening_step stmt_step
 
 -- in a listener
-abbrev pub missing_in_listening : Listening → OnSpots
-missing_in_listening = fold-Listening At OnSpots Spots stmt_node listening_step stmt_step
+abbrev pub missing_in_listening : Listening → Spots
+missing_in_listening = fold-Listening At Spots Spots stmt_node listening_step stmt_step
 
 -- statements in a row
 abbrev pub missing_in_body : List Stmt → Spots

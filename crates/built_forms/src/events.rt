@@ -1,69 +1,124 @@
-ghost use Rattle.std.specs.Prelude.{◌≡◌};
-ghost use Rattle.std.specs.List.{list_all};
-ghost use Rattle.built_forms.specs.Rows.{first_of};
-ghost use Rattle.built_forms.specs.Events.{is_ordinary, is_as, is_bare, is_plain, missing_in_operand, missing_in_event};
+ghost use Rattle.std.specs.Prelude.{◌≡◌, map};
+ghost use Rattle.built_forms.specs.Rows.{joined, behind};
+ghost use Rattle.built_forms.specs.Events.{missing_in_range, missing_in_constraint, missing_in_duration, missing_in_deadline, missing_in_clause, missing_in_template, missing_in_event};
 
-use epl_tree::{EventExpr, EventNode, Mode, Template, TemplateClause};
+use crate::expressions::next_expr;
+use epl_tree::{
+    Constraint, ConstraintNode, Constraints, Duration, DurationNode, EventExpr, EventExprs,
+    EventNode, Range, Template, TemplateClause, TemplateClauses,
+};
 use span_text::Spot;
 
-fn is_ordinary(mode: Mode) -> bool
-    ensures { result ≡ is_ordinary mode }
+#[tactic(auto, using(crate::proofs::Row::rows))]
+fn next_range(before: Option<Spot>, range: &Range) -> Option<Spot>
+    ensures { result ≡ behind before (missing_in_range range.now) }
 {
-    match mode {
-        Mode::Ordinary => true,
-        _ => false,
+    next_expr(next_expr(before, &range.low.bound), &range.high.bound)
+}
+
+#[tactic(auto, using(crate::proofs::Row::rows))]
+fn next_constraint(before: Option<Spot>, constraint: &Constraint) -> Option<Spot>
+    ensures { result ≡ behind before (missing_in_constraint constraint.now) }
+{
+    match &constraint.node {
+        ConstraintNode::Any => before,
+        ConstraintNode::Equals(operand) => next_expr(before, operand),
+        ConstraintNode::Compares(_, operand) => next_expr(before, operand),
+        ConstraintNode::Lies(range) => next_range(before, range),
+        ConstraintNode::NamedCompares(_, _, operand) => next_expr(before, operand),
+        ConstraintNode::NamedLies(_, range) => next_range(before, range),
     }
 }
 
-fn is_as(clause: &TemplateClause) -> bool
-    ensures { result ≡ is_as clause.now }
+#[tactic(auto, using(crate::proofs::Row::rows))]
+fn next_constraints(before: Option<Spot>, constraints: &Constraints) -> Option<Spot>
+    ensures { result ≡ behind before (joined (map missing_in_constraint constraints.now)) }
+{
+    let mut found = before;
+    'constraints: for constraint in constraints.as_slice() {
+        found = next_constraint(found, constraint);
+    }
+    found
+}
+
+#[tactic(auto, using(crate::proofs::Row::rows))]
+fn next_duration(before: Option<Spot>, duration: &Duration) -> Option<Spot>
+    ensures { result ≡ behind before (missing_in_duration duration.now) }
+{
+    match &duration.node {
+        DurationNode::Decimal(_) => before,
+        DurationNode::Seconds(operand) => next_expr(before, operand),
+    }
+}
+
+#[tactic(auto, using(crate::proofs::Row::rows))]
+fn next_deadline(before: Option<Spot>, within: &Option<Duration>) -> Option<Spot>
+    ensures { result ≡ behind before (missing_in_deadline within.now) }
+{
+    match within {
+        None => before,
+        Some(duration) => next_duration(before, duration),
+    }
+}
+
+#[tactic(auto, using(crate::proofs::Row::rows))]
+fn next_clause(before: Option<Spot>, clause: &TemplateClause) -> Option<Spot>
+    ensures { result ≡ behind before (missing_in_clause clause.now) }
 {
     match clause {
-        TemplateClause::As(_) => true,
-        TemplateClause::Within(_) => false,
+        TemplateClause::As(_) => before,
+        TemplateClause::Within(duration) => next_duration(before, duration),
     }
 }
 
-fn are_as(clauses: &[TemplateClause]) -> bool
-    ensures { result ≡ list_all is_as clauses.now }
+#[tactic(auto, using(crate::proofs::Row::rows))]
+fn next_clauses(before: Option<Spot>, clauses: &TemplateClauses) -> Option<Spot>
+    ensures { result ≡ behind before (joined (map missing_in_clause clauses.now)) }
 {
-    clauses.iter().all(|clause| is_as(clause))
+    let mut found = before;
+    'clauses: for clause in clauses.as_slice() {
+        found = next_clause(found, clause);
+    }
+    found
 }
 
-fn is_bare(template: &Template) -> bool
-    ensures { result ≡ is_bare template.now }
+#[tactic(auto, using(crate::proofs::Row::rows))]
+fn next_template(before: Option<Spot>, template: &Template) -> Option<Spot>
+    ensures { result ≡ behind before (missing_in_template template.now) }
 {
-    template.constraints.as_slice().is_empty() && are_as(template.clauses.as_slice())
+    next_clauses(
+        next_constraints(before, &template.constraints),
+        &template.clauses,
+    )
 }
 
-fn is_plain(template: &Template) -> bool
-    ensures { result ≡ is_plain template.now }
-{
-    is_ordinary(template.mode) && is_bare(template)
-}
-
-/// What stands behind `all`, where it isn't built.
-fn in_operand(tree: &EventExpr) -> Option<Spot>
-    ensures { result ≡ first_of (missing_in_operand tree.now) }
+/// What was found before, or else the first form in an event expression that isn't built.
+#[cycle(events)]
+#[tactic(auto, using(crate::proofs::Row::rows))]
+pub fn next_event(before: Option<Spot>, tree: &EventExpr) -> Option<Spot>
+    ensures { result ≡ behind before (missing_in_event tree.now) }
 {
     match &tree.node {
-        EventNode::Template(template) => {
-            if is_plain(template) {
-                None
-            } else {
-                Some(tree.spot)
-            }
-        }
-        _ => Some(tree.spot),
+        EventNode::Followed(first, rest) => next_events(next_event(before, first.get()), rest),
+        EventNode::Or(first, rest) => next_events(next_event(before, first.get()), rest),
+        EventNode::Xor(first, rest) => next_events(next_event(before, first.get()), rest),
+        EventNode::And(first, rest) => next_events(next_event(before, first.get()), rest),
+        EventNode::All(operand) => next_event(before, operand.get()),
+        EventNode::Not(operand) => next_event(before, operand.get()),
+        EventNode::Group(inner, within) => next_deadline(next_event(before, inner.get()), within),
+        EventNode::Wait(duration) => next_duration(before, duration),
+        EventNode::Template(template) => next_template(before, template),
     }
 }
 
-/// The event expression of a listener or what stands behind its `all`, where it isn't built.
-pub fn in_event(tree: &EventExpr) -> Option<Spot>
-    ensures { result ≡ first_of (missing_in_event tree.now) }
+#[cycle(events)]
+#[tactic(auto, using(crate::proofs::Row::rows))]
+fn next_events(before: Option<Spot>, trees: &EventExprs) -> Option<Spot>
+    ensures { result ≡ behind before (joined (map missing_in_event trees.now)) }
 {
-    match &tree.node {
-        EventNode::All(operand) => in_operand(operand.get()),
-        _ => Some(tree.spot),
+    let mut found = before;
+    'trees: for tree in trees.as_slice() {
+        found = next_event(found, tree);
     }
+    found
 }

@@ -103,13 +103,7 @@ fn in_suffix(suffix: &Suffix) -> Option<Spot>
 {
     match &suffix.node {
         SuffixNode::Field(_) => None,
-        SuffixNode::Method(name, args) => {
-            if name.as_str() == "quit" {
-                Some(suffix.spot)
-            } else {
-                next_exprs(None, args)
-            }
-        }
+        SuffixNode::Method(_, args) => next_exprs(None, args),
         SuffixNode::Index(part) => in_expr(part.get()),
     }
 }

@@ -1,5 +1,5 @@
-//! Where the first form of the language stands that isn't built yet. These aren't built: event expressions other than `all T()`
-//! and `all T() as NAME`, `on` as a value, `spawn`, `route`, `send`, `monitor.`, `context` and the method `quit`.
+//! Where the first form of the language stands that isn't built yet. These aren't built: `spawn`, `route`, `send`, `monitor.` and
+//! `context`.
 #![tactic(auto)]
 
 mod events;

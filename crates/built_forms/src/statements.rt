@@ -1,9 +1,9 @@
-ghost use Rattle.std.specs.Prelude.{◌≡◌, ◌∷◌, ◌++◌, [], option_map};
+ghost use Rattle.std.specs.Prelude.{◌≡◌, ◌++◌, option_map};
 ghost use Rattle.built_forms.specs.Rows.{first_of, behind};
 ghost use Rattle.built_forms.specs.Expressions.{missing_in};
 ghost use Rattle.built_forms.specs.Statements.{if_any, missing_in_place, missing_in_stmt, missing_in_listening, missing_in_body};
 
-use crate::events::in_event;
+use crate::events::next_event;
 use crate::expressions::{in_expr, in_optional, next_expr, next_suffixes};
 use epl_tree::{Boxed, Expr, Listening, Place, Stmt, StmtNode, Stmts};
 use span_text::Spot;
@@ -22,16 +22,6 @@ fn in_assigned(place: &Place, value: &Expr) -> Option<Spot>
     next_expr(in_place(place), value)
 }
 
-/// What was found before, or else this spot.
-fn next_spot(before: Option<Spot>, spot: Spot) -> Option<Spot>
-    ensures { result ≡ behind before (spot ∷ []) }
-{
-    match before {
-        Some(spot) => Some(spot),
-        None => Some(spot),
-    }
-}
-
 /// The first form in a statement that isn't built.
 #[cycle(statements)]
 #[tactic(auto, using(crate::proofs::Row::rows))]
@@ -40,12 +30,12 @@ fn in_stmt(tree: &Stmt) -> Option<Spot>
 {
     match &tree.node {
         StmtNode::Block(parts) => next_body(None, parts),
-        StmtNode::On(on) => in_listening(on),
+        StmtNode::On(on) => next_listening(None, on),
         StmtNode::Declare(_, _) => None,
         StmtNode::DeclareAs(_, _, value) => in_expr(value),
-        StmtNode::DeclareOn(_, _, on) => Some(on.spot),
+        StmtNode::DeclareOn(_, _, on) => next_listening(None, on),
         StmtNode::Assign(place, value) => in_assigned(place, value),
-        StmtNode::AssignOn(place, on) => next_spot(in_place(place), on.spot),
+        StmtNode::AssignOn(place, on) => next_listening(in_place(place), on),
         StmtNode::If(test, part, other) => {
             next_other(next_stmt(in_expr(test), part.get()), other)
         }
@@ -87,10 +77,10 @@ fn next_other(before: Option<Spot>, other: &Option<Boxed<Stmt>>) -> Option<Spot>
 
 #[cycle(statements)]
 #[tactic(auto, using(crate::proofs::Row::rows))]
-fn in_listening(on: &Listening) -> Option<Spot>
-    ensures { result ≡ first_of (missing_in_listening on.now).parts }
+fn next_listening(before: Option<Spot>, on: &Listening) -> Option<Spot>
+    ensures { result ≡ behind before (missing_in_listening on.now) }
 {
-    next_stmt(in_event(&on.event), on.callback.get())
+    next_stmt(next_event(before, &on.event), on.callback.get())
 }
 
 /// What was found before, or else the first form in statements that isn't built.
