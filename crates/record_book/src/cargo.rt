@@ -8,6 +8,8 @@ pub enum Cargo {
     Load(u16),
     /// An event.
     Event(Value),
+    /// The time that it is from then on, in tenths of a second.
+    Time(i128),
 }
 
 /// A line that a context prints.

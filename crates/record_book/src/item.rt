@@ -5,6 +5,8 @@ use epl_values::{List, Text, Value};
 pub enum Item {
     /// An event for a channel; the empty channel is that of events without one.
     Event(Text, Value),
+    /// The time that it is from then on, in tenths of a second.
+    Time(i128),
 }
 
 /// The items of an event file, in order.

@@ -1,7 +1,7 @@
 use Rattle.std.proofs.Common.{arith}
 use Rattle.std.proofs.lemmas.Bool.{false≢true}
 use Rattle.evt_reader.proofs.Names.{lacks-more, lacks-all}
-use Rattle.evt_reader.proofs.meaning.type_of.Goals as goal
+use Rattle.evt_reader.proofs.events.type_of.Goals as goal
 
 pub loop-at-preserved : goal.loop-at-preserved
 loop-at-preserved c = λ k lt h.

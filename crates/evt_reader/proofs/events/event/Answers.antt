@@ -2,7 +2,7 @@ use Rattle.std.proofs.Common.{◌∙◌, ap, sym}
 use Rattle.std.proofs.lemmas.List.{take_rest}
 use Rattle.evt_reader.specs.Steps.{are_blanks}
 use Rattle.evt_reader.proofs.Meanings.{event-found, event-not_blank, event-no_type, finds-fault}
-use Rattle.evt_reader.proofs.meaning.event.Goals as goal
+use Rattle.evt_reader.proofs.events.event.Goals as goal
 
 pub returns-in_default : goal.returns-in_default
 returns-in_default c = event-no_type c.args.types.now c.requires c.args.text.now c.in_default.ensures
