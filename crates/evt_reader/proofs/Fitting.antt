@@ -1,6 +1,6 @@
 -- What is spelled fits its shape, and so the items of a file fit the program.
-use Rattle.evt_reader.proofs.Common.{ℕ, ℤ, pos, inl, inr, length, zero, suc, List, [], Bool, true, false, Option, Some, None, Ok, sym, subst, flat_map, option_to_list, EventShape, Value, Item, Event, Time, arith, Spells, AreLines, GivesItems, IsLine, lines_of}
-use Rattle.std.proofs.Common.{◌∷◌, ◌++◌, ◌+◌, ◌*◌, ◌^◌, ◌<◌, ◌≤◌, ◌≤ℤ◌, ◌<ℤ◌, map}
+use Rattle.evt_reader.proofs.Common.{ℕ, ℤ, pos, inl, inr, zero, suc, List, [], Bool, true, false, Option, Some, None, Ok, sym, subst, flat_map, option_to_list, EventShape, Value, Item, Event, Time, arith, Spells, AreLines, GivesItems, IsLine, lines_of}
+use Rattle.std.proofs.Common.{◌∷◌, ◌++◌, ◌^◌, ◌<◌, ◌≤◌, ◌≤ℤ◌, map, nat_le}
 use Rattle.std.proofs.lemmas.Bool.{and_parts, leb-true}
 use Rattle.std.proofs.lemmas.Int.{ints}
 use Rattle.std.proofs.lemmas.Str.Parse.{digits_value_short, numerals_by_value, tells_digits}
@@ -73,7 +73,7 @@ module _ (types : List EventShape) where
 -- so many seconds and tenths are a time
 tenths-below : (tenths : ℕ) (text : List ℕ) → SpellsTenths tenths text → tenths ≤ 9
 tenths-below tenths text (inl (none, is)) = omega arith
-tenths-below tenths text (inr (digit, zeros, whole, is, are, value)) = let p = and_parts _ _ is in let high : digit ≤ 57 = leb-true _ _ p.1 in omega arith
+tenths-below tenths text (inr (digit, zeros, whole, is, are, value)) = let high : digit ≤ 57 = leb-true digit 57 (and_parts (nat_le 48 digit) (nat_le digit 57) is).1 in omega arith
 
 time_fits : (time : ℕ) (rest : List ℕ) → IsTimeLine time rest → IsTime (pos time)
 time_fits time rest (before, spelling, behind, end, whole, blanks, (seconds, point, tenths, cut, are, short, spells, is), more, last) =

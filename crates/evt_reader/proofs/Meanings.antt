@@ -4,7 +4,7 @@ use Rattle.std.proofs.Common.{◌≡◌, ◌-◌, ◌≤◌, ◌∷◌, ◌++◌
 use Rattle.std.specs.List.{AllByRecursion, slice_range}
 use Rattle.std.specs.Str.{IsUtf8}
 use Rattle.std.specs.Str.Parse.{IsNumeral}
-use Rattle.std.proofs.lemmas.Bool.{or_cases, or_left, or_right, and_parts, and_from, false≢true, leb-true}
+use Rattle.std.proofs.lemmas.Bool.{or_cases, or_left, or_right, and_parts, false≢true, leb-true}
 use Rattle.std.proofs.lemmas.Int.{ints}
 use Rattle.std.proofs.lemmas.Option.{none-some, same_Some}
 use Rattle.evt_text.specs.declared.fault.TextFault.{TextFault}
@@ -21,7 +21,7 @@ use Rattle.evt_text.proofs.Spelled.{blanks-read, string-read}
 use Rattle.evt_text.proofs.Respelled.{blanks-again, digit-test, string-again}
 use Rattle.evt_text.proofs.Renested.{name-of}
 use Rattle.evt_text.proofs.Events.{EndsName, event-same, event-name, event-opens}
-use Rattle.evt_reader.specs.Files.{IsEmpty, IsFlushing, IsBatch, IsNothing, IsTimeLine, IsEvent, IsChannelled, IsSent, Says}
+use Rattle.evt_reader.specs.Files.{IsEmpty, IsBatch, IsNothing, IsTimeLine, IsEvent, IsChannelled, IsSent, Says}
 use Rattle.evt_reader.specs.Steps.{name_front, FindsEvent, FindsSent, FindsMeaning, SaysTime, are_blanks, is_slash, is_empty, is_flushing, is_batch, is_nothing, is_quote, timed, channel_at}
 use Rattle.evt_reader.proofs.Timing.{blanks-test, blanks-pass, unblank-digits, flushing-read, flushing-again, batch-read, batch-again, timed-read, timed-again}
 
@@ -193,7 +193,7 @@ event-no_batch types names rest x (spelling, behind, e, a, n, k) (before, digits
     let event_front : name_front rest ≡ s.0.name = ap name_front whole ∙ name-whole s.0.name (s.1 ++ (40 ∷ (s.2 ++ behind))) (name-of types n s.0 names s.3) (blanks-ends s.1 (40 ∷ (s.2 ++ behind)) s.5 refl) in
     let batch_front : name_front rest ≡ codes "BATCH" = ap name_front f ∙ name-whole (codes "BATCH") (before ++ (digits ++ end)) batch-name (gap-ends before (digits ++ end) some c) in
     let same : s.1 ++ (40 ∷ (s.2 ++ behind)) ≡ before ++ (digits ++ end)
-          = same-tail (codes "BATCH") (s.1 ++ (40 ∷ (s.2 ++ behind))) (before ++ (digits ++ end)) (ap (λ y. y ++ (s.1 ++ (40 ∷ (s.2 ++ behind)))) (sym batch_front ∙ event_front) ∙ sym whole ∙ f) in
+    = same-tail (codes "BATCH") (s.1 ++ (40 ∷ (s.2 ++ behind))) (before ++ (digits ++ end)) (ap (λ y. y ++ (s.1 ++ (40 ∷ (s.2 ++ behind)))) (sym batch_front ∙ event_front) ∙ sym whole ∙ f) in
     bracket-digits (s.2 ++ behind) digits end d (sym (blanks-again s.1 (40 ∷ (s.2 ++ behind)) s.5) ∙ ap behind_blanks same ∙ blanks-again before (digits ++ end) c ∙ unblank-digits digits end d)
 
 event-something : (types : List EventShape) → HasNames types → (rest : List ℕ) (x : Value) → IsEvent types rest x → is_nothing rest ≡ false
@@ -228,10 +228,13 @@ sent-unblank : (types : List EventShape) → HasNames types → (rest channel : 
 sent-unblank types names rest channel x (inl h) = event-unblank types names rest x h.1
 sent-unblank types names rest channel x (inr h) = let q = channelled-quote types rest channel x h in rw q.1 refl
 
-sent-something : (types : List EventShape) → HasNames types → (rest channel : List ℕ) (x : Value) → IsSent types rest channel x → is_nothing rest ≡ false
+quote-something : (more : List ℕ) → is_nothing (34 ∷ more) ≡ false
 unfolding is_nothing is_flushing is_batch
+quote-something more = refl
+
+sent-something : (types : List EventShape) → HasNames types → (rest channel : List ℕ) (x : Value) → IsSent types rest channel x → is_nothing rest ≡ false
 sent-something types names rest channel x (inl h) = event-something types names rest x h.1
-sent-something types names rest channel x (inr h) = let q = channelled-quote types rest channel x h in rw q.1 refl
+sent-something types names rest channel x (inr h) = let q = channelled-quote types rest channel x h in ap is_nothing q.1 ∙ quote-something q.0
 
 pub sent-no_time : (types : List EventShape) → HasNames types → (rest channel : List ℕ) (x : Value) → IsSent types rest channel x → timed rest ≡ None
 unfolding timed

@@ -122,6 +122,13 @@ blanks-end : (end : List ℕ) → AreBlanks end → EndsNumber end
 blanks-end [] h = tt
 blanks-end (b ∷ bs) h = blank-ends b h.0
 
+-- a name, blanks, a piece and what follows it
+pieced : (name rest inside before text piece end : List ℕ) → rest ≡ name ++ inside → inside ≡ before ++ text → text ≡ piece ++ end → rest ≡ name ++ (before ++ (piece ++ end))
+pieced name rest inside before text piece end e f g = e ∙ ap (λ x. name ++ x) (f ∙ ap (λ x. before ++ x) g)
+
+closed_by : (name rest before piece q behind end : List ℕ) → rest ≡ name ++ (before ++ (piece ++ q)) → q ≡ behind ++ 41 ∷ end → rest ≡ name ++ (before ++ (piece ++ (behind ++ 41 ∷ end)))
+closed_by name rest before piece q behind end e f = e ∙ ap (λ x. name ++ (before ++ (piece ++ x))) f
+
 -- ---- lines of flushing
 
 pub flushing-read : (rest : List ℕ) → is_flushing rest ≡ true → IsFlushing rest
@@ -132,8 +139,8 @@ flushing-read rest e =
     let b = blanks-read r.0 in
     let d = row-read (behind_blanks r.0) p.0 r.2 in
     let c = closed-read p.0 p.2 in
-    let whole = behind_name-is (codes "&FLUSHING(") rest r.0 r.1 ∙ ap (λ x. codes "&FLUSHING(" ++ x) (b.1 ∙ ap (λ x. b.0 ++ x) (d.1 ∙ ap (λ x. d.0 ++ x) c.2)) in
-    (b.0, d.0, c.0, c.1, whole, b.2, d.2, c.3, c.4)
+    let whole = pieced (codes "&FLUSHING(") rest r.0 b.0 (behind_blanks r.0) d.0 p.0 (behind_name-is (codes "&FLUSHING(") rest r.0 r.1) b.1 d.1 in
+    (b.0, d.0, c.0, c.1, closed_by (codes "&FLUSHING(") rest b.0 d.0 p.0 c.0 c.1 whole c.2, b.2, d.2, c.3, c.4)
 
 flushing-inside : (inside q : List ℕ) → behind_row (behind_blanks inside) ≡ Some q → is_closed q ≡ true → is_flushing (codes "&FLUSHING(" ++ inside) ≡ true
 unfolding is_flushing
@@ -143,7 +150,7 @@ pub flushing-again : (rest : List ℕ) → IsFlushing rest → is_flushing rest 
 flushing-again rest (before, digits, behind, end, e, a, d, b, c) =
     let last = behind ++ 41 ∷ end in
     let row : behind_row (behind_blanks (before ++ (digits ++ (behind ++ 41 ∷ end)))) ≡ Some (behind ++ 41 ∷ end)
-          = ap behind_row (blanks-again before (digits ++ (behind ++ 41 ∷ end)) a ∙ unblank-digits digits (behind ++ 41 ∷ end) d) ∙ row-again digits (behind ++ 41 ∷ end) d (closing-ends behind end b) in
+    = ap behind_row (blanks-again before (digits ++ (behind ++ 41 ∷ end)) a ∙ unblank-digits digits (behind ++ 41 ∷ end) d) ∙ row-again digits (behind ++ 41 ∷ end) d (closing-ends behind end b) in
     ap is_flushing e ∙ flushing-inside (before ++ (digits ++ (behind ++ 41 ∷ end))) (behind ++ 41 ∷ end) row (closed-again behind end b c)
 
 -- ---- lines of batches
@@ -178,7 +185,7 @@ batch-read rest e =
     let s = bind-some (behind_gap r.0) behind_row p.0 r.2 in
     let g = gap-read r.0 s.0 s.1 in
     let d = row-read s.0 p.0 s.2 in
-    let whole = behind_name-is (codes "BATCH") rest r.0 r.1 ∙ ap (λ x. codes "BATCH" ++ x) (g.1 ∙ ap (λ x. g.0 ++ x) d.1) in
+    let whole = pieced (codes "BATCH") rest r.0 g.0 s.0 d.0 p.0 (behind_name-is (codes "BATCH") rest r.0 r.1) g.1 d.1 in
     (g.0, d.0, p.0, whole, g.2, g.3, d.2, p.2)
 
 batch-inside : (gap digits q : List ℕ) → behind_gap gap ≡ Some digits → behind_row digits ≡ Some q → are_blanks q ≡ true → is_batch (codes "BATCH" ++ gap) ≡ true
@@ -289,8 +296,8 @@ timed-read rest n e =
     let b = blanks-read r.0 in
     let t = time-read (behind_blanks r.0) s.0.0 s.0.1 s.1 in
     let d = closed-read s.0.1 c.1 in
-    let whole = behind_name-is (codes "&TIME(") rest r.0 r.1 ∙ ap (λ x. codes "&TIME(" ++ x) (b.1 ∙ ap (λ x. b.0 ++ x) (t.1 ∙ ap (λ x. t.0 ++ x) d.2)) in
-    (b.0, t.0, d.0, d.1, whole, b.2, subst (λ m. SpellsTime m t.0) c.0 t.2, d.3, d.4)
+    let whole = pieced (codes "&TIME(") rest r.0 b.0 (behind_blanks r.0) t.0 s.0.1 (behind_name-is (codes "&TIME(") rest r.0 r.1) b.1 t.1 in
+    (b.0, t.0, d.0, d.1, closed_by (codes "&TIME(") rest b.0 t.0 s.0.1 d.0 d.1 whole d.2, b.2, subst (λ m. SpellsTime m t.0) c.0 t.2, d.3, d.4)
 
 timed-inside : (inside : List ℕ) (n : ℕ) (q : List ℕ) → time_at (behind_blanks inside) ≡ Some (n, q) → is_closed q ≡ true → timed (codes "&TIME(" ++ inside) ≡ Some n
 unfolding timed
@@ -305,6 +312,6 @@ unblank-time n spelling q (seconds, behind, tenths, e, num, short, t, value) =
 pub timed-again : (rest : List ℕ) (n : ℕ) → IsTimeLine n rest → timed rest ≡ Some n
 timed-again rest n (before, spelling, behind, end, e, a, t, b, c) =
     let time : time_at (behind_blanks (before ++ (spelling ++ (behind ++ 41 ∷ end)))) ≡ Some (n, behind ++ 41 ∷ end)
-          = ap time_at (blanks-again before (spelling ++ (behind ++ 41 ∷ end)) a ∙ unblank-time n spelling (behind ++ 41 ∷ end) t)
-            ∙ time-again n spelling (behind ++ 41 ∷ end) t (closing-ends behind end b) (closing-point behind end b) in
+    = ap time_at (blanks-again before (spelling ++ (behind ++ 41 ∷ end)) a ∙ unblank-time n spelling (behind ++ 41 ∷ end) t)
+    ∙ time-again n spelling (behind ++ 41 ∷ end) t (closing-ends behind end b) (closing-point behind end b) in
     ap timed e ∙ timed-inside (before ++ (spelling ++ (behind ++ 41 ∷ end))) n (behind ++ 41 ∷ end) time (closed-again behind end b c)

@@ -1,6 +1,6 @@
 -- What the steps of reading an event file give.
 use Rattle.evt_reader.specs.Common.{ℕ, ℤ, List, [], length, codes, Option, Some, None, Result, Ok, Err, slice_get, option_to_list, lines, EventShape, Value, Item}
-use Rattle.std.specs.Prelude.{◌≡◌, ◌∷◌, ◌++◌, ◌&&◌, ◌==◌, if◌then◌else◌, ◌+◌, ◌*◌, ◌<◌, ◌<ℤ◌, ◌≤ℤ◌, pos, Bool, true, false, ◌||◌, not, nat_le}
+use Rattle.std.specs.Prelude.{◌≡◌, ◌∷◌, ◌++◌, ◌&&◌, ◌==◌, if◌then◌else◌, ◌+◌, ◌*◌, ◌<◌, ◌<ℤ◌, ◌≤ℤ◌, pos, Bool, true, false, ◌||◌, nat_le}
 use Rattle.std.specs.Option.{option_map}
 use Rattle.record_book.specs.declared.item.Item.TheVariants.{Time}
 use Rattle.evt_text.specs.Forms.{is_letter, is_digit}
