@@ -1,5 +1,5 @@
 -- The names that most files here cite, passed on from one place. Declares nothing.
-pub use Rattle.std.proofs.Common.{Bool, Err, List, None, Ok, Option, Result, Some, [], ap, append_assoc, arith, cond, drop, false, inl, inr, length, length-append, refl, slice_get, subst, suc, sym, take, true, zero, ℕ, ◌∙◌}
+pub use Rattle.std.proofs.Common.{Bool, Err, List, None, Ok, Option, Result, Some, [], ap, append_assoc, arith, cond, drop, false, inl, inr, length, length-append, refl, slice_get, subst, suc, sym, take, true, zero, pos, ℕ, ℤ, ◌∙◌}
 pub use Rattle.std.proofs.lemmas.Bool.{ne_eqb}
 pub use Rattle.std.proofs.lemmas.Option.{same_Some}
 pub use Rattle.std.proofs.lemmas.Result.{err_from_is_err_and}
@@ -14,4 +14,4 @@ pub use Rattle.evt_reader.specs.Steps.{HasName, LacksName, TakesOff}
 pub use Rattle.evt_text.specs.Forms.{AreEventTypes}
 pub use Rattle.evt_text.specs.Spelling.{Spells}
 pub use Rattle.record_book.specs.declared.item.Item.{Item}
-pub use Rattle.record_book.specs.declared.item.Item.TheVariants.{Event}
+pub use Rattle.record_book.specs.declared.item.Item.TheVariants.{Event, Time}

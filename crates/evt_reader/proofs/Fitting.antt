@@ -1,6 +1,10 @@
 -- What is spelled fits its shape, and so the items of a file fit the program.
-use Rattle.evt_reader.proofs.Common.{ℕ, zero, suc, List, [], Bool, true, false, Option, Some, None, Ok, sym, subst, flat_map, option_to_list, EventShape, Value, Item, Event, Spells, AreLines, GivesItems, IsLine, lines_of}
-use Rattle.std.proofs.Common.{◌∷◌, ◌++◌, map}
+use Rattle.evt_reader.proofs.Common.{ℕ, ℤ, pos, inl, inr, zero, suc, List, [], Bool, true, false, Option, Some, None, Ok, sym, subst, flat_map, option_to_list, EventShape, Value, Item, Event, Time, arith, Spells, AreLines, GivesItems, IsLine, lines_of}
+use Rattle.std.proofs.Common.{◌∷◌, ◌++◌, ◌^◌, ◌<◌, ◌≤◌, ◌≤ℤ◌, map, nat_le}
+use Rattle.std.proofs.lemmas.Bool.{and_parts, leb-true}
+use Rattle.std.proofs.lemmas.Int.{ints}
+use Rattle.std.proofs.lemmas.Str.Parse.{digits_value_short, numerals_by_value, tells_digits}
+use Rattle.std.specs.Str.Parse.{AllDigits, digits_value}
 use Rattle.std.proofs.lemmas.List.Elements.{All-cons, All-nil}
 use Rattle.epl_values.specs.declared.shape.Shape.{Shape, Shape-F, out-Shape, roll-Shape, roll-out-Shape}
 use Rattle.epl_values.specs.declared.shape.Shape.TheFolds.{fold_out-Shape, map-Shape}
@@ -13,12 +17,12 @@ use Rattle.event_types.specs.Types.{fields_of}
 use Rattle.value_shapes.specs.Fits.{Fit, AllFit}
 use Rattle.value_shapes.proofs.Lists.{fit_nil, fit_cons}
 use Rattle.value_shapes.proofs.Made.{boolean_fits, dictionary_made, event_made, integer_fits, is_event_fits, sequence_made, text_fits}
-use Rattle.record_book.specs.Fits.{ItemFits, ItemsFit}
+use Rattle.record_book.specs.Fits.{IsTime, ItemFits, ItemsFit}
 use Rattle.event_types.specs.Types.{Form, form_of, form_step}
 use Rattle.evt_text.specs.Entries.{entered}
 use Rattle.evt_text.specs.Spelling.{SpellsEntry, SpellsFields, SpellsForm, SpellsWithin}
 use Rattle.evt_text.proofs.Known.{IsKnown, entered_ascend, entered_each, list_each}
-use Rattle.evt_reader.specs.Files.{AreItems}
+use Rattle.evt_reader.specs.Files.{AreItems, IsSent, IsTimeLine, SpellsTenths, time_after}
 
 module _ (types : List EventShape) where
   -- what `P` spells fits the shape
@@ -66,23 +70,42 @@ module _ (types : List EventShape) where
   pub spelled_fits : (s : Shape) (x : Value) (spelling : List ℕ) → Spells types s x spelling → Fit types x s
   spelled_fits s x spelling (depth, h) = within_fits depth s x spelling h
 
+-- so many seconds and tenths are a time
+tenths-below : (tenths : ℕ) (text : List ℕ) → SpellsTenths tenths text → tenths ≤ 9
+tenths-below tenths text (inl (none, is)) = omega arith
+tenths-below tenths text (inr (digit, zeros, whole, is, are, value)) = let high : digit ≤ 57 = leb-true digit 57 (and_parts (nat_le 48 digit) (nat_le digit 57) is).1 in omega arith
+
+time_fits : (time : ℕ) (rest : List ℕ) → IsTimeLine time rest → IsTime (pos time)
+time_fits time rest (before, spelling, behind, end, whole, blanks, (seconds, point, tenths, cut, are, short, spells, is), more, last) =
+    let below : digits_value 10 seconds < 10 ^ 12 = digits_value_short (numerals_by_value (AllDigits 10) tells_digits) seconds 12 are.1 short in
+    let few = tenths-below tenths point spells in
+    let least : pos 0 ≤ℤ pos time = omega (arith, ints) in
+    let most : time < 10 ^ 13 = omega arith in
+    (least, omega (arith, ints))
+
 module _ (program : Program) where
+  -- an event that is sent fits
+  sent_fits : (rest channel : List ℕ) (x : Value) → IsSent program.types rest channel x → ItemFits program (Event channel x)
+  sent_fits rest channel x (inl (empty, (spelling, behind, cut, more, number, spells))) = is_event_fits program.types x number (spelled_fits program.types (shape.Event number) x spelling spells)
+  sent_fits rest channel x (inr (string, before, gap, event, whole, is, blanks, more, (spelling, behind, cut, end, number, spells))) =
+      is_event_fits program.types x number (spelled_fits program.types (shape.Event number) x spelling spells)
+
   -- the item of a line fits, in front of items that do
-  line_fits : (line : List ℕ) (meant : Option Item) (items : List Item) → IsLine program.types line meant → ItemsFit program items → ItemsFit program (option_to_list meant ++ items)
-  line_fits line None items h a = a
-  line_fits line (Some (Event channel x)) items (short, text, blanks, rest, whole, are, (empty, (spelling, behind, cut, more, number, spells))) a =
-      All-cons (ItemFits program) (Event channel x) items (is_event_fits program.types x number (spelled_fits program.types (shape.Event number) x spelling spells)) a
+  line_fits : (last : ℤ) (line : List ℕ) (meant : Option Item) (items : List Item) → IsLine program.types last line meant → ItemsFit program items → ItemsFit program (option_to_list meant ++ items)
+  line_fits last line None items h a = a
+  line_fits last line (Some (Event channel x)) items (text, blanks, rest, whole, are, sent) a = All-cons (ItemFits program) (Event channel x) items (sent_fits rest channel x sent) a
+  line_fits last line (Some (Time t)) items (text, blanks, rest, whole, are, (time, is, timed, later)) a = All-cons (ItemFits program) (Time t) items (subst IsTime (sym is) (time_fits time rest timed)) a
 
   -- the items of lines fit
-  lines_fit : (lines : List (List ℕ)) (meant : List (Option Item)) → AreLines program.types lines meant → ItemsFit program (flat_map option_to_list meant)
-  lines_fit [] [] h = All-nil (ItemFits program)
-  lines_fit [] (m ∷ ms) h = absurd h
-  lines_fit (l ∷ ls) [] h = absurd h
-  lines_fit (l ∷ ls) (m ∷ ms) h = line_fits l m (flat_map option_to_list ms) h.0 (lines_fit ls ms h.1)
+  lines_fit : (last : ℤ) (lines : List (List ℕ)) (meant : List (Option Item)) → AreLines program.types last lines meant → ItemsFit program (flat_map option_to_list meant)
+  lines_fit last [] [] h = All-nil (ItemFits program)
+  lines_fit last [] (m ∷ ms) h = absurd h
+  lines_fit last (l ∷ ls) [] h = absurd h
+  lines_fit last (l ∷ ls) (m ∷ ms) h = line_fits last l m (flat_map option_to_list ms) h.0 (lines_fit (time_after last m) ls ms h.1)
 
-  -- the items of a file are events of the program's types
+  -- the items of a file are events of the program's types, and times
   pub items_fit : (bytes : List ℕ) (items : List Item) → AreItems program.types bytes items → ItemsFit program items
-  items_fit bytes items (meant, lines, is) = subst (ItemsFit program) (sym is) (lines_fit (lines_of bytes) meant lines)
+  items_fit bytes items (meant, lines, is) = subst (ItemsFit program) (sym is) (lines_fit (pos 0) (lines_of bytes) meant lines)
 
 -- the same of an answer
 pub gives_fit : (program : Program) (bytes : List ℕ) (items : List Item) → GivesItems program.types bytes (Ok items) → ItemsFit program items

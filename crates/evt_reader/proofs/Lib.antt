@@ -4,3 +4,4 @@ pub mod Fitting
 pub mod Lined
 pub mod Meanings
 pub mod Names
+pub mod Timing

@@ -1,115 +1,89 @@
-ghost use Rattle.std.specs.Prelude.{◌≡◌, ◌≤◌, ◌<◌, length, MatchOption, IsTrue, ◌↔◌, ◌||◌};
-ghost use Rattle.epl_values.specs.declared.shape.Shape.TheVariants.{Event as OfEvent};
-ghost use Rattle.evt_text.specs.Spelling.{FindsValue};
-ghost use Rattle.evt_text.specs.Forms.{AreEventTypes, is_letter, is_digit};
-ghost use Rattle.evt_reader.specs.Steps.{name_front, is_nothing, are_blanks, HasName, LacksName, FindsEvent, FindsMeaning};
+ghost use Rattle.std.specs.Prelude.{◌≡◌};
+ghost use Rattle.evt_text.specs.Forms.{AreEventTypes};
+ghost use Rattle.evt_reader.specs.Steps.{behind_gap, is_empty, is_flushing, is_batch, is_nothing, FindsMeaning, SaysTime};
+ghost use Rattle.std.specs.Option.{option_map};
 
-use epl_values::{EventShape, EventShapes, Shape, Text, Value};
-use evt_text::{TextFault, behind_blanks, value_at};
+use crate::events::sent;
+use crate::times::{are_blanks, behind_row, is_closed, timed};
+use epl_values::EventShapes;
+use evt_text::{TextFault, behind_blanks, behind_name};
 use record_book::Item;
 use std::alloc::Global;
 use std::str;
 
-/// The most bytes of a line.
-const MOST_BYTES: usize = 1024;
-
-fn is_name_byte(byte: u8) -> bool
-    ensures { result ≡ (is_letter byte || is_digit byte) }
-{
-    matches!(byte, b'A'..=b'Z' | b'a'..=b'z' | b'_' | b'0'..=b'9')
-}
-
-fn name_len(text: &str) -> usize
-    ensures count { result ≡ length (name_front text.now) }
-    ensures within { result ≤ length text.now }
-{
-    for (at, byte) in text.as_bytes().iter().enumerate() {
-        if !is_name_byte(*byte) {
-            return at;
-        }
-    }
-    text.len()
-}
-
-fn has_name(event: &EventShape, name: &[u8]) -> bool
-    ensures { IsTrue result ↔ (event.now.name ≡ name.now) }
-{
-    event.name.as_str().as_bytes() == name
-}
-
-fn type_of(types: &EventShapes, name: &[u8]) -> Option<u16>
-    requires { length types.now ≤ 65536 }
-    ensures { MatchOption result (LacksName types.now name.now) (HasName types.now name.now) }
-{
-    for at in 0..types.len() {
-        if has_name(types.get(at), name) {
-            return Some(at as u16);
-        }
-    }
-    None
-}
-
-fn are_blanks(bytes: &[u8]) -> bool
-    ensures { result ≡ are_blanks bytes.now }
-{
-    for byte in bytes {
-        if !(*byte == b' ' || *byte == b'\t') {
-            return false;
-        }
-    }
-    true
-}
-
-fn is_nothing(rest: &str) -> bool
-    ensures { result ≡ is_nothing rest.now }
+fn is_empty(rest: &str) -> bool
+    ensures { result ≡ is_empty rest.now }
 {
     matches!(rest.as_bytes(), [] | [b'#', ..] | [b'/', b'/', ..])
 }
 
-fn type_in_front(types: &EventShapes, text: &str) -> Option<u16>
-    requires { length types.now ≤ 65536 }
-    ensures { MatchOption result (LacksName types.now (name_front text.now)) (HasName types.now (name_front text.now)) }
+#[tactic(auto, unfolding(crate::specs::Steps::is_flushing))]
+fn is_flushing(text: &str) -> bool
+    ensures { result ≡ is_flushing text.now }
 {
-    type_of(types, &text.as_bytes()[..name_len(text)])
+    let Some(inside) = behind_name(text, "&FLUSHING(") else {
+        return false;
+    };
+    let Some(rest) = behind_row(behind_blanks(inside)) else {
+        return false;
+    };
+    is_closed(rest)
 }
 
-fn event_at(
+fn behind_gap(text: &str) -> Option<&str>
+    ensures { option_map (λ rest. rest.now) result ≡ behind_gap text.now }
+{
+    let rest = behind_blanks(text);
+    if rest.len() == text.len() {
+        return None;
+    }
+    Some(rest)
+}
+
+#[tactic(auto, unfolding(crate::specs::Steps::is_batch))]
+fn is_batch(text: &str) -> bool
+    ensures { result ≡ is_batch text.now }
+{
+    let Some(gap) = behind_name(text, "BATCH") else {
+        return false;
+    };
+    let Some(digits) = behind_gap(gap) else {
+        return false;
+    };
+    let Some(rest) = behind_row(digits) else {
+        return false;
+    };
+    are_blanks(rest.as_bytes())
+}
+
+#[tactic(auto, unfolding(crate::specs::Steps::is_nothing))]
+fn is_nothing(text: &str) -> bool
+    ensures { result ≡ is_nothing text.now }
+{
+    is_empty(text) || is_flushing(text) || is_batch(text)
+}
+
+/// A time that a line says, if it isn't less than the last one.
+fn time_said(last: &i128, time: u64) -> Result<Option<Item>, TextFault>
+    ensures { SaysTime last.now time result }
+{
+    let time = i128::from(time);
+    if time < *last {
+        return Err(TextFault::NoValue);
+    }
+    Ok(Some(Item::Time(time)))
+}
+
+/// What a line says behind the last time: nothing, or an item.
+pub fn meaning(
     alloc: Global,
     types: &EventShapes,
-    number: u16,
-    text: &str,
-) -> Result<(Value, usize), TextFault>
-    requires types { AreEventTypes types.now }
-    requires number { number < length types.now }
-    ensures { FindsValue types.now (OfEvent number) text.now 0 result }
-{
-    let shape = Shape::Event(number);
-    let found = value_at(alloc, text, 0, &shape, types);
-    found
-}
-
-fn event(alloc: Global, types: &EventShapes, text: &str) -> Result<Value, TextFault>
+    last: &i128,
+    line: &[u8],
+) -> Result<Option<Item>, TextFault>
     requires { AreEventTypes types.now }
-    ensures { FindsEvent types.now text.now result }
+    ensures { FindsMeaning types.now last.now line.now result }
 {
-    let Some(number) = type_in_front(types, text) else {
-        return Err(TextFault::NoValue);
-    };
-    let (value, end) = event_at(alloc, types, number, text)?;
-    if !are_blanks(&text.as_bytes()[end..]) {
-        return Err(TextFault::NoValue);
-    }
-    Ok(value)
-}
-
-/// What a line says: nothing, or an item.
-pub fn meaning(alloc: Global, types: &EventShapes, line: &[u8]) -> Result<Option<Item>, TextFault>
-    requires { AreEventTypes types.now }
-    ensures { FindsMeaning types.now line.now result }
-{
-    if line.len() > MOST_BYTES {
-        return Err(TextFault::NoValue);
-    }
     let Ok(text) = str::from_utf8(line) else {
         return Err(TextFault::NoValue);
     };
@@ -117,6 +91,9 @@ pub fn meaning(alloc: Global, types: &EventShapes, line: &[u8]) -> Result<Option
     if is_nothing(rest) {
         return Ok(None);
     }
-    let value = event(alloc, types, rest)?;
-    Ok(Some(Item::Event(Text::new(alloc), value)))
+    if let Some(time) = timed(rest) {
+        return time_said(last, time);
+    }
+    let (channel, value) = sent(alloc, types, rest)?;
+    Ok(Some(Item::Event(channel, value)))
 }

@@ -52,3 +52,13 @@ name-within types (suc depth) n x spelling (event, xs, found, is, s) =
 pub event-name : (types : List EventShape) (n : ℕ) (x : Value) (spelling : List ℕ) → Spells types (Event n) x spelling
     → (event : EventShape) × (tail : List ℕ) × (slice_get types n ≡ Some event) × (spelling ≡ event.name ++ tail) × EndsName tail
 event-name types n x spelling h = let s = event-within types n x spelling h in name-within types s.0 n x spelling s.1
+
+opens-within : (types : List EventShape) (depth n : ℕ) (x : Value) (spelling : List ℕ) → SpellsWithin depth types (EventForm n) x spelling
+    → (event : EventShape) × (blanks more : List ℕ) × (slice_get types n ≡ Some event) × (spelling ≡ event.name ++ (blanks ++ (40 ∷ more))) × AreBlanks blanks
+opens-within types zero n x spelling h = absurd h
+opens-within types (suc depth) n x spelling (event, xs, found, is, s) = (event, s.0, s.1 ++ (s.2 ++ (41 ∷ [])), found, s.3 ∙ simp append_assoc, s.4)
+
+-- behind the name of its type come blanks and a bracket
+pub event-opens : (types : List EventShape) (n : ℕ) (x : Value) (spelling : List ℕ) → Spells types (Event n) x spelling
+    → (event : EventShape) × (blanks more : List ℕ) × (slice_get types n ≡ Some event) × (spelling ≡ event.name ++ (blanks ++ (40 ∷ more))) × AreBlanks blanks
+event-opens types n x spelling h = let s = event-within types n x spelling h in opens-within types s.0 n x spelling s.1

@@ -42,7 +42,7 @@ number-step : (limit d : ℕ) (ds rest : List ℕ) (value : ℕ) → is_digit d 
 unfolding number_at
 number-step limit d ds rest value t e = rw t (ap Some e)
 
-number-again : (limit : ℕ) (digits rest : List ℕ) → IsNumeral 10 digits → digits_value 10 digits ≤ limit
+pub number-again : (limit : ℕ) (digits rest : List ℕ) → IsNumeral 10 digits → digits_value 10 digits ≤ limit
     → number_at limit (digits ++ rest) ≡ Some (digits_from limit (digits_value 10 digits) rest)
 number-again limit [] rest a le = absurd (let some = a.0 in omega arith)
 number-again limit (d ∷ ds) rest a le =

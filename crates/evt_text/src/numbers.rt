@@ -21,8 +21,9 @@ fn digits_from(limit: u64, first: u64, text: &str) -> (u64, &str)
     (number, rest)
 }
 
+/// The number of one digit or more, as long as it is within the limit, and what follows them.
 #[tactic(auto, unfolding(crate::specs::Reading::number_at))]
-fn number_at(limit: u64, text: &str) -> Option<(u64, &str)>
+pub fn number_at(limit: u64, text: &str) -> Option<(u64, &str)>
     requires { 9 ≤ limit }
     ensures read { MatchOption result (number_at limit text.now ≡ None) (λ r. number_at limit text.now ≡ Some (r.0, r.1.now)) }
     ensures small { MatchOption result ⊤ (λ r. r.0 ≤ limit) }

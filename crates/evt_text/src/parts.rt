@@ -17,6 +17,7 @@ pub fn behind_first(text: &str) -> &str
     &text[1..]
 }
 
+/// What follows a sign, if it is in front.
 pub fn behind_sign(text: &str, sign: char) -> Option<&str>
     requires { sign < 128 }
     ensures { option_map (λ rest. rest.now) result ≡ behind_sign sign text.now }
@@ -24,6 +25,7 @@ pub fn behind_sign(text: &str, sign: char) -> Option<&str>
     text.strip_prefix(sign)
 }
 
+/// What follows a name, if it is in front.
 pub fn behind_name<'a>(text: &'a str, name: &str) -> Option<&'a str>
     ensures { option_map (λ rest. rest.now) result ≡ behind_name name.now text.now }
 {
@@ -44,6 +46,7 @@ pub fn behind_blanks(text: &str) -> &str
     rest
 }
 
+/// The value of the digit in front, and what follows it.
 pub fn digit_at(text: &str) -> Option<(u64, &str)>
     ensures read { MatchOption result (digit_at text.now ≡ None) (λ r. digit_at text.now ≡ Some (r.0, r.1.now)) }
     ensures small { MatchOption result ⊤ (λ r. r.0 ≤ 9) }

@@ -172,7 +172,7 @@ module _ (p : Program) (items : List Item) (settings : Settings) (r : Record) (h
   sent-all : (s d : ℕ) → ((s ≡ settings.contexts) × (d ≡ settings.contexts) → ⊥) → AllCargo (all_sends (actors_of p settings) (map inr items) s d ((world_of settings r).log s))
   sent-all s d other =
       all-append (mail s 0 d (before (actors_of p settings) (map inr items) s)) (replies (actors_of p settings) s d (first (actors_of p settings) s) ((world_of settings r).log s)) (go (s == settings.contexts) refl)
-      (replies-all settings.contexts (slots_of p settings) (reader_of p) s d (first (actors_of p settings) s) ((world_of settings r).log s))
+      (replies-all settings.contexts (slots_of p settings) (reader_of p settings.contexts) s d (first (actors_of p settings) s) ((world_of settings r).log s))
     where
       go : (b : Bool) → (s == settings.contexts) ≡ b → AllCargo (mail s 0 d (cond b (loaded (actors_of p settings) (map inr items)) []))
       go true i =
@@ -198,7 +198,7 @@ module _ (p : Program) (items : List Item) (settings : Settings) (r : Record) (h
       ≡ all_sends (actors_of p settings) (map inr items) settings.contexts settings.contexts ((world_of settings r).log settings.contexts)
   own-delivered =
       let k = settings.contexts in
-      let sent = sends-own (actors_of p settings) (map inr items) ((world_of settings r).log k) (joined-quiet k (slots_of p settings) (reader_of p)) in
+      let sent = sends-own (actors_of p settings) (map inr items) ((world_of settings r).log k) (joined-quiet k (slots_of p settings) (reader_of p settings.contexts)) in
       let nothing : by k (received settings r k) ≡ [] =
       h.delivered k k (omega arith) (omega arith) ∙ sym (sends-same p items settings r k k numbers-world (omega arith)) ∙ ap cargoes sent ∙ cargoes-own k items in
       let all : by k (entries_of r.reader.steps ++ []) ≡ [] = ap (λ es. by k (entries_of r.reader.steps ++ es)) (sym h.nothing_left) ∙ ap (by k) (sym (received-reader settings r)) ∙ nothing in
@@ -212,7 +212,7 @@ module _ (p : Program) (items : List Item) (settings : Settings) (r : Record) (h
   past-delivered : (s d : ℕ) → settings.contexts < d → by s ((world_of settings r).log d ++ (world_of settings r).queue d) ≡ all_sends (actors_of p settings) (map inr items) s d ((world_of settings r).log s)
   past-delivered s d lt =
       ap (λ l. by s (l ++ (world_of settings r).queue d)) (world-log_past d lt) ∙ ap (by s) (world-queue_past d lt)
-      ∙ sym (ap (λ es. es ++ replies (actors_of p settings) s d (first (actors_of p settings) s) ((world_of settings r).log s)) (none (s == settings.contexts)) ∙ replies-past settings.contexts (slots_of p settings) (reader_of p) s d (first (actors_of p settings) s) ((world_of settings r).log s) lt)
+      ∙ sym (ap (λ es. es ++ replies (actors_of p settings) s d (first (actors_of p settings) s) ((world_of settings r).log s)) (none (s == settings.contexts)) ∙ replies-past settings.contexts (slots_of p settings) (reader_of p settings.contexts) s d (first (actors_of p settings) s) ((world_of settings r).log s) lt)
     where
       none : (b : Bool) → mail s 0 d (cond b (loaded (actors_of p settings) (map inr items)) []) ≡ []
       none true =
@@ -249,7 +249,7 @@ module _ (p : Program) (items : List Item) (settings : Settings) (r : Record) (h
   boot-world : BeginsWithBoot (actors_of p settings) (world_of settings r)
   boot-world =
       let begun : Record = h.boot.0 in
-      let faithful = scheduled-kept settings.contexts (slots_of p settings) (reader_of p) shown [] [] (kept_of begun) h.boot.1.scheduled in
+      let faithful = scheduled-kept settings.contexts (slots_of p settings) (reader_of p settings.contexts) shown [] [] (kept_of begun) h.boot.1.scheduled in
       begins-more (actors_of p settings) (world_of settings begun) (world_of settings r) (λ d. grown begun h.boot.2 d (cases_eq d settings.contexts)) faithful.boot
     where
       grown : (begun : Record) → BeginsWith begun r → (d : ℕ) → ((d ≡ settings.contexts) ⊎ (d ≡ settings.contexts → ⊥)) → IsPrefix ((world_of settings begun).log d) ((world_of settings r).log d)

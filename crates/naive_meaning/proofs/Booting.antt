@@ -105,7 +105,7 @@ module _ (p : Program) (settings : Settings) (boot : World (Cargo ⊎ Item)) whe
   boot-all h d =
       let run = boot-run (actors_of p settings) boot h in
       let P : List (Entry (Cargo ⊎ Item)) → Type 0 = AllCargo in
-      all-by (boot.log d ++ boot.queue d) (λ s. subst P (sym (run.each s d)) (sends-all settings.contexts (slots_of p settings) (reader_of p) s d (boot.log s)))
+      all-by (boot.log d ++ boot.queue d) (λ s. subst P (sym (run.each s d)) (sends-all settings.contexts (slots_of p settings) (reader_of p settings.contexts) s d (boot.log s)))
 
   -- no entry of a log is lost
   pub log-kept : IsBoot (actors_of p settings) boot → (d : ℕ) → map lifted (cargoes (boot.log d)) ≡ boot.log d
@@ -135,8 +135,8 @@ module _ (p : Program) (settings : Settings) (boot : World (Cargo ⊎ Item)) whe
       nothing (boot.queue d) (λ s. (both-nil (by s (boot.log d)) (by s (boot.queue d)) (sym (by-append s (boot.log d) (boot.queue d)) ∙ run.each s d ∙ none s (s == settings.contexts))).1)
     where
       none : (s : ℕ) (b : Bool) → mail s 0 d (cond b (loaded (actors_of p settings) []) []) ++ replies (actors_of p settings) s d (first (actors_of p settings) s) (boot.log s) ≡ []
-      none s true = ap (λ xs. xs ++ replies (actors_of p settings) s d (first (actors_of p settings) s) (boot.log s)) (mail-to_slots_none settings.contexts s 0 d (loads_below (length p.monitors)) (omega arith)) ∙ replies-past settings.contexts (slots_of p settings) (reader_of p) s d (first (actors_of p settings) s) (boot.log s) lt
-      none s false = replies-past settings.contexts (slots_of p settings) (reader_of p) s d (first (actors_of p settings) s) (boot.log s) lt
+      none s true = ap (λ xs. xs ++ replies (actors_of p settings) s d (first (actors_of p settings) s) (boot.log s)) (mail-to_slots_none settings.contexts s 0 d (loads_below (length p.monitors)) (omega arith)) ∙ replies-past settings.contexts (slots_of p settings) (reader_of p settings.contexts) s d (first (actors_of p settings) s) (boot.log s) lt
+      none s false = replies-past settings.contexts (slots_of p settings) (reader_of p settings.contexts) s d (first (actors_of p settings) s) (boot.log s) lt
 
       nothing : (q : List (Entry (Cargo ⊎ Item))) → ((s : ℕ) → by s q ≡ []) → q ≡ []
       nothing [] h = refl
@@ -208,7 +208,7 @@ module _ (p : Program) (settings : Settings) (boot : World (Cargo ⊎ Item)) whe
       own_none : by k (boot.queue k) ≡ []
       own_none =
           let run = boot-run (actors_of p settings) boot h in
-          (both-nil (by k (boot.log k)) (by k (boot.queue k)) (sym (by-append k (boot.log k) (boot.queue k)) ∙ run.each k k ∙ sends-own (actors_of p settings) [] (boot.log k) (joined-quiet k (slots_of p settings) (reader_of p)))).1
+          (both-nil (by k (boot.log k)) (by k (boot.queue k)) (sym (by-append k (boot.log k) (boot.queue k)) ∙ run.each k k ∙ sends-own (actors_of p settings) [] (boot.log k) (joined-quiet k (slots_of p settings) (reader_of p settings.contexts)))).1
 
       same : (q : List (Entry (Cargo ⊎ Item))) → by k q ≡ [] → first_from (other_sender k (k + 1) q) q ≡ None → first_from (other_sender k k q) q ≡ None
       same [] i j = refl

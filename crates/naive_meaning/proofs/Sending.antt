@@ -31,8 +31,8 @@ reader-replies p settings d last (step.Item i n ∷ steps) h =
     let number : n ≡ number_after last e = cc in
     let rest : map step_number steps ≡ numbers_along (number_after last e) (map (step_entry k) steps) = cc in
     let more : List (Entry (Cargo ⊎ Item)) = replies L k d (reader_moment tt (number_after last e)) (map (step_entry k) steps) in
-    let sent : List (Sent Cargo) = slots_only k (item_sends i) in
-    cargoes-append (mail k (number_after last e) d (to_slots k (item_sends i))) more
+    let sent : List (Sent Cargo) = slots_only k (item_sends k i) in
+    cargoes-append (mail k (number_after last e) d (to_slots k (item_sends k i))) more
     ∙ ap (λ xs. xs ++ cargoes more) (cargoes-mail Item k (number_after last e) d sent ∙ ap (λ m. mail k m d sent) (sym number))
     ∙ ap (λ xs. mail k n d sent ++ xs) (reader-replies p settings d (number_after last e) steps rest)
 reader-replies p settings d last (step.Entry e n ∷ steps) h =

@@ -1,6 +1,7 @@
 -- The contexts and the reader of a run, as actors.
 use Rattle.naive_meaning.specs.Common.{ℕ, List, [], Program, Cargo, Context}
-use Rattle.std.specs.Prelude.{◌∷◌, ◌++◌, ◌⊎◌, zero, suc, length}
+use Rattle.std.specs.Prelude.{ℤ, ◌∷◌, ◌++◌, ◌⊎◌, zero, suc, length}
+use Rattle.epl_values.specs.declared.value.Value.{Value}
 use Rattle.actor_theory.specs.Language.{Language, Sent}
 use Rattle.actor_theory.specs.Joined.{Slots, Reader, joined}
 use Rattle.record_book.specs.declared.cargo.Cargo.TheVariants as cargo
@@ -24,24 +25,35 @@ abbrev pub loads_below : ℕ → List (Sent Cargo)
 loads_below zero = []
 loads_below (suc n) = loads_below n ++ (record { target = 0; cargo = cargo.Load n }) ∷ []
 
--- an event item goes to slot 0
-abbrev pub item_sends : Item → List (Sent Cargo)
-item_sends (item.Event channel event) = (record { target = 0; cargo = cargo.Event event }) ∷ []
+-- an event without a channel goes to slot 0; no context is subscribed to a channel yet, so any other goes nowhere
+abbrev pub event_sends : List ℕ → Value → List (Sent Cargo)
+event_sends [] event = (record { target = 0; cargo = cargo.Event event }) ∷ []
+event_sends (b ∷ channel) event = []
+
+-- a time goes to each of the first slots, so many, in order
+abbrev pub times_below : ℕ → ℤ → List (Sent Cargo)
+times_below zero t = []
+times_below (suc n) t = times_below n t ++ (record { target = n; cargo = cargo.Time t }) ∷ []
+
+-- what an item sends where there are so many contexts
+abbrev pub item_sends : ℕ → Item → List (Sent Cargo)
+item_sends contexts (item.Event channel event) = event_sends channel event
+item_sends contexts (item.Time t) = times_below contexts t
 
 -- the reader keeps nothing in mind
 abbrev pub ReaderState : Type 0
 ReaderState = Unit {0}
 
--- the reader sends the loads before it handles anything, and then its items
-abbrev pub reader_of : Program → Reader ReaderState Cargo Item
-reader_of p = record {
+-- the reader of so many contexts sends the loads before it handles anything, and then its items
+abbrev pub reader_of : Program → ℕ → Reader ReaderState Cargo Item
+reader_of p contexts = record {
   start = tt;
   item = λ r i. tt;
   entry = λ r e. tt;
-  item_sent = λ r i. item_sends i;
+  item_sent = λ r i. item_sends contexts i;
   loads = loads_below (length p.monitors);
 }
 
 -- the contexts and the reader of a program, as one language
 abbrev pub actors_of : Program → Settings → Language (Context ⊎ ReaderState) (Cargo ⊎ Item)
-actors_of p settings = joined settings.contexts (slots_of p settings) (reader_of p)
+actors_of p settings = joined settings.contexts (slots_of p settings) (reader_of p settings.contexts)

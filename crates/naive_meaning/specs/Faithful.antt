@@ -64,7 +64,7 @@ context_sends p settings s d c last (e ∷ es) =
 -- what the reader sends to the actor d for the items in these steps, with each step's number as stamp; it sends to slots alone
 abbrev pub items_send : Settings → ℕ → List (ReaderStep Item Cargo) → List (Entry Cargo)
 items_send settings d [] = []
-items_send settings d (step.Item i n ∷ steps) = mail settings.contexts n d (slots_only settings.contexts (item_sends i)) ++ items_send settings d steps
+items_send settings d (step.Item i n ∷ steps) = mail settings.contexts n d (slots_only settings.contexts (item_sends settings.contexts i)) ++ items_send settings d steps
 items_send settings d (step.Entry e n ∷ steps) = items_send settings d steps
 
 -- what the actor s sends to the actor d: the reader first the loads, with stamp 0, and then for its items; a context along its log

@@ -23,9 +23,9 @@ kept_of r = record { slots = map slot_kept r.contexts; steps = r.reader.steps; l
 -- cause, the items are all taken in order, boot comes first, and nothing is left but at spent contexts
 pub record IsFaithful (p : Program) (items : List Item) (settings : Settings) (r : Record) : Type 0 where
   pub same_settings : r.settings ≡ settings
-  pub faithful : kept.IsFaithful settings.contexts (slots_of p settings) (reader_of p) shown items (kept_of r)
+  pub faithful : kept.IsFaithful settings.contexts (slots_of p settings) (reader_of p settings.contexts) shown items (kept_of r)
 
 -- the record that boot, these picks, and rounds until one handles nothing make
 pub record IsScheduled (p : Program) (items : List Item) (settings : Settings) (picks : List (ℕ × Option ℕ)) (r : Record) : Type 0 where
   pub same_settings : r.settings ≡ settings
-  pub scheduled : kept.IsScheduled settings.contexts (slots_of p settings) (reader_of p) shown items picks (kept_of r)
+  pub scheduled : kept.IsScheduled settings.contexts (slots_of p settings) (reader_of p settings.contexts) shown items picks (kept_of r)

@@ -59,6 +59,7 @@ fn answer<R: Files + Print + Eprint>(
         "blanks" => texts::blanks(alloc, types, line),
         "read" => texts::read(alloc, line),
         "items" => events::items_in(rt, alloc, line),
+        "cuts" => events::cuts_of(rt, alloc, line),
         "whole" => files::whole(rt, alloc, types, line),
         "memory" => files::put_in_memory(alloc, types, line),
         "room" => files::put_in_room(alloc, types, line),

@@ -8,7 +8,7 @@ pub enum Cargo {
     Load(u16),
     /// An event.
     Event(Value),
-    /// A time, in tenths of a second.
+    /// The time that it is from then on, in tenths of a second.
     Time(i128),
 }
 

@@ -5,7 +5,7 @@ use epl_values::{List, Text, Value};
 pub enum Item {
     /// An event for a channel; the empty channel is that of events without one.
     Event(Text, Value),
-    /// A time, in tenths of a second.
+    /// The time that it is from then on, in tenths of a second.
     Time(i128),
 }
 
