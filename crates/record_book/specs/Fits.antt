@@ -1,6 +1,6 @@
 -- Cargo, entries and items that fit a typed program.
 use Rattle.std.specs.List.{All}
-use Rattle.std.specs.Prelude.{◌<◌, ◌^◌, ◌≤ℤ◌, ◌<ℤ◌, ℤ, pos, length}
+use Rattle.std.specs.Prelude.{◌<◌, ◌-◌, ◌^◌, ◌≤ℤ◌, ℤ, pos, length}
 use Rattle.record_book.specs.Common.{List, Program, Cargo, Item}
 use Rattle.epl_values.specs.declared.value.Value.{out-Value}
 use Rattle.value_shapes.specs.Fits.{IsEvent}
@@ -10,7 +10,7 @@ use Rattle.record_book.specs.declared.item.Item.TheVariants as item
 
 -- a time of up to twelve digits of seconds, in tenths
 abbrev pub IsTime : ℤ → Type 0
-IsTime t = (pos 0 ≤ℤ t) × (t <ℤ pos (10 ^ 13))
+IsTime t = (pos 0 ≤ℤ t) × (t ≤ℤ pos (10 ^ 13 - 1))
 
 -- what an entry carries is there and has its shape
 abbrev pub CargoFits : Program → Cargo → Type 0
