@@ -1,5 +1,8 @@
 mod Common
+pub mod Counting
 pub mod Lending
+pub mod Lists
 pub mod Order
 pub mod Places
 pub mod Searching
+pub mod Stepping

@@ -1,6 +1,10 @@
 -- Ascending numbers, where things come and go.
 use Rattle.std.proofs.Common.{◌+◌, ◌<◌, ◌≤◌, ◌∷◌, ◌++◌, ◌≡◌}
-use Rattle.live_context.proofs.Common.{ℕ, List, [], Bool, true, false, cond, filter, refl, subst, sym, ap, arith, Value, Instance, Listener, is_instance, put_globals, Ascend, Within, InOrder, number_of, birth_of}
+use Rattle.std.proofs.lemmas.List.{map-append}
+use Rattle.live_context.proofs.Common.{ℕ, List, [], Bool, true, false, cond, filter, map, refl, subst, sym, ap, ◌∙◌, arith, Value, Instance, Listener, is_instance, put_globals, Ascend, Within, InOrder, number_of, birth_of, owner_of, AreCounts, count_its, with_count}
+use Rattle.live_context.specs.Steps.{AreSame}
+use Rattle.live_context.proofs.Counting.{counts_as, counts_globals, count_same, less_counts, more_counts, no_counts, none_its}
+use Rattle.live_context.proofs.Lists.{ascend_same, within_same}
 
 -- a lesser bound
 pub lower : {A : Type 0} (n : A → ℕ) (low least : ℕ) (xs : List A) → least ≤ low → Ascend n low xs → Ascend n least xs
@@ -50,44 +54,71 @@ within_globals number high globals (x ∷ xs) w = go (is_instance number x) (wit
     go true r = (w.0, w.1)
     go false r = (w.0, r)
 
+-- a greater bound
+pub within_more : {A : Type 0} (n : A → ℕ) (high more : ℕ) (xs : List A) → high ≤ more → Within n high xs → Within n more xs
+within_more n high more [] h w = tt
+within_more n high more (x ∷ xs) h w = let first : n x ≤ high = w.0 in (omega arith, within_more n high more xs h w.1)
+
 -- ---- what stands behind each change
 
-pub order_begun : (births begun next : ℕ) (ls : List Listener) (is new : List Instance) (i : Instance) → next ≡ begun + 1 → i.number ≡ next → new ≡ is ++ i ∷ [] → InOrder births begun ls is → InOrder births next ls new
-order_begun births begun next ls is new i next_is number_is new_is o = record {
-  births_ascend = o.births_ascend;
-  births_within = o.births_within;
-  numbers_ascend = subst (Ascend number_of 0) (sym new_is) (ascend_push number_of 0 begun is i o.numbers_ascend o.numbers_within (omega arith) (omega arith));
-  numbers_within = subst (Within number_of next) (sym new_is) (within_push number_of begun next is i o.numbers_within (omega arith) (omega arith));
-}
+module _ (births begun : ℕ) (ls : List Listener) (is : List Instance) (counts : List ℕ) where
+  pub order_begun : (next : ℕ) (new : List Instance) (new_counts : List ℕ) (i : Instance) → next ≡ begun + 1 → i.number ≡ next → new ≡ is ++ i ∷ [] → new_counts ≡ counts ++ 0 ∷ [] → InOrder births begun ls is counts → InOrder births next ls new new_counts
+  order_begun next new new_counts i next_is number_is new_is counts_is o = record {
+    births_ascend = o.births_ascend;
+    births_within = o.births_within;
+    owners_within = within_more owner_of begun next ls (omega arith) o.owners_within;
+    numbers_ascend = subst (Ascend number_of 0) (sym new_is) (ascend_push number_of 0 begun is i o.numbers_ascend o.numbers_within (omega arith) (omega arith));
+    numbers_within = subst (Within number_of next) (sym new_is) (within_push number_of begun next is i o.numbers_within (omega arith) (omega arith));
+    counted = counts_is ∙ ap (λ ns. ns ++ 0 ∷ []) o.counted ∙ ap (λ n. map (λ (j : Instance). count_its ls j.number) is ++ n ∷ []) (sym (none_its begun i.number ls o.owners_within (omega arith))) ∙ sym (map-append (λ (j : Instance). count_its ls j.number) is (i ∷ [])) ∙ ap (map (λ (j : Instance). count_its ls j.number)) (sym new_is);
+  }
 
-pub order_put : (births begun number : ℕ) (globals : List Value) (ls : List Listener) (is new : List Instance) → new ≡ put_globals number globals is → InOrder births begun ls is → InOrder births begun ls new
-order_put births begun number globals ls is new new_is o = record {
-  births_ascend = o.births_ascend;
-  births_within = o.births_within;
-  numbers_ascend = subst (Ascend number_of 0) (sym new_is) (ascend_globals number 0 globals is o.numbers_ascend);
-  numbers_within = subst (Within number_of begun) (sym new_is) (within_globals number begun globals is o.numbers_within);
-}
+  pub order_put : (number : ℕ) (globals : List Value) (new : List Instance) (new_counts : List ℕ) → new ≡ put_globals number globals is → new_counts ≡ counts → InOrder births begun ls is counts → InOrder births begun ls new new_counts
+  order_put number globals new new_counts new_is counts_is o = record {
+    births_ascend = o.births_ascend;
+    births_within = o.births_within;
+    owners_within = o.owners_within;
+    numbers_ascend = subst (Ascend number_of 0) (sym new_is) (ascend_globals number 0 globals is o.numbers_ascend);
+    numbers_within = subst (Within number_of begun) (sym new_is) (within_globals number begun globals is o.numbers_within);
+    counted = counts_is ∙ o.counted ∙ sym (counts_globals (count_its ls) number globals is) ∙ ap (map (λ (j : Instance). count_its ls j.number)) (sym new_is);
+  }
 
-pub order_removed : (births begun : ℕ) (p : Instance → Bool) (ls : List Listener) (is new : List Instance) → new ≡ filter p is → InOrder births begun ls is → InOrder births begun ls new
-order_removed births begun p ls is new new_is o = record {
-  births_ascend = o.births_ascend;
-  births_within = o.births_within;
-  numbers_ascend = subst (Ascend number_of 0) (sym new_is) (ascend_filter number_of 0 p is o.numbers_ascend);
-  numbers_within = subst (Within number_of begun) (sym new_is) (within_filter number_of begun p is o.numbers_within);
-}
+  pub order_removed : (p : Instance → Bool) (new : List Instance) (new_counts : List ℕ) → new ≡ filter p is → (AreCounts (count_its ls) is counts → AreCounts (count_its ls) new new_counts) → InOrder births begun ls is counts → InOrder births begun ls new new_counts
+  order_removed p new new_counts new_is counted o = record {
+    births_ascend = o.births_ascend;
+    births_within = o.births_within;
+    owners_within = o.owners_within;
+    numbers_ascend = subst (Ascend number_of 0) (sym new_is) (ascend_filter number_of 0 p is o.numbers_ascend);
+    numbers_within = subst (Within number_of begun) (sym new_is) (within_filter number_of begun p is o.numbers_within);
+    counted = counted o.counted;
+  }
 
-pub order_born : (births begun next : ℕ) (ls new : List Listener) (is : List Instance) (l : Listener) → next ≡ births + 1 → l.birth ≡ next → new ≡ ls ++ l ∷ [] → InOrder births begun ls is → InOrder next begun new is
-order_born births begun next ls new is l next_is birth_is new_is o = record {
-  births_ascend = subst (Ascend birth_of 0) (sym new_is) (ascend_push birth_of 0 births ls l o.births_ascend o.births_within (omega arith) (omega arith));
-  births_within = subst (Within birth_of next) (sym new_is) (within_push birth_of births next ls l o.births_within (omega arith) (omega arith));
-  numbers_ascend = o.numbers_ascend;
-  numbers_within = o.numbers_within;
-}
+  pub order_born : (next : ℕ) (ms : List Listener) (new : List Instance) (new_counts : List ℕ) (l : Listener) → next ≡ births + 1 → l.birth ≡ next → l.instance ≤ begun → ms ≡ ls ++ l ∷ [] → new ≡ is → AreCounts (with_count l.instance (count_its ls l.instance + 1) (count_its ls)) new new_counts → InOrder births begun ls is counts → InOrder next begun ms new new_counts
+  order_born next ms new new_counts l next_is birth_is begun_is ms_is new_is counted o = record {
+    births_ascend = subst (Ascend birth_of 0) (sym ms_is) (ascend_push birth_of 0 births ls l o.births_ascend o.births_within (omega arith) (omega arith));
+    births_within = subst (Within birth_of next) (sym ms_is) (within_push birth_of births next ls l o.births_within (omega arith) (omega arith));
+    owners_within = subst (Within owner_of begun) (sym ms_is) (within_push owner_of begun begun ls l o.owners_within (omega arith) begun_is);
+    numbers_ascend = subst (Ascend number_of 0) (sym new_is) o.numbers_ascend;
+    numbers_within = subst (Within number_of begun) (sym new_is) o.numbers_within;
+    counted = subst (λ xs. AreCounts (count_its xs) new new_counts) (sym ms_is) (counts_as (with_count l.instance (count_its ls l.instance + 1) (count_its ls)) (count_its (ls ++ l ∷ [])) new new_counts (more_counts ls l) counted);
+  }
 
-pub order_quit : (births begun : ℕ) (p : Listener → Bool) (ls new : List Listener) (is : List Instance) → new ≡ filter p ls → InOrder births begun ls is → InOrder births begun new is
-order_quit births begun p ls new is new_is o = record {
-  births_ascend = subst (Ascend birth_of 0) (sym new_is) (ascend_filter birth_of 0 p ls o.births_ascend);
-  births_within = subst (Within birth_of births) (sym new_is) (within_filter birth_of births p ls o.births_within);
-  numbers_ascend = o.numbers_ascend;
-  numbers_within = o.numbers_within;
-}
+  -- some listeners go, and they are counted as they are now
+  pub order_quit : (p : Listener → Bool) (ms : List Listener) (new : List Instance) (new_counts : List ℕ) → ms ≡ filter p ls → new ≡ is → AreCounts (count_its (filter p ls)) new new_counts → InOrder births begun ls is counts → InOrder births begun ms new new_counts
+  order_quit p ms new new_counts ms_is new_is counted o = record {
+    births_ascend = subst (Ascend birth_of 0) (sym ms_is) (ascend_filter birth_of 0 p ls o.births_ascend);
+    births_within = subst (Within birth_of births) (sym ms_is) (within_filter birth_of births p ls o.births_within);
+    owners_within = subst (Within owner_of begun) (sym ms_is) (within_filter owner_of begun p ls o.owners_within);
+    numbers_ascend = subst (Ascend number_of 0) (sym new_is) o.numbers_ascend;
+    numbers_within = subst (Within number_of begun) (sym new_is) o.numbers_within;
+    counted = subst (λ xs. AreCounts (count_its xs) new new_counts) (sym ms_is) counted;
+  }
+
+  pub order_same : (ms : List Listener) → AreSame ls ms → InOrder births begun ls is counts → InOrder births begun ms is counts
+  order_same ms same o = record {
+    births_ascend = ascend_same birth_of 0 ls ms same.births o.births_ascend;
+    births_within = within_same birth_of births ls ms same.births o.births_within;
+    owners_within = within_same owner_of begun ls ms same.owners o.owners_within;
+    numbers_ascend = o.numbers_ascend;
+    numbers_within = o.numbers_within;
+    counted = counts_as (count_its ls) (count_its ms) is counts (count_same ls ms same.owners) o.counted;
+  }

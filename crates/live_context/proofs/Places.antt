@@ -1,10 +1,13 @@
 -- Instances and listeners at the places where they are found.
 use Rattle.std.proofs.Common.{◌<◌, ◌∷◌, ◌≡◌}
 use Rattle.std.specs.Prelude.{nat_lt}
-use Rattle.std.proofs.lemmas.Option.{slice_get_within}
-use Rattle.live_context.proofs.Common.{ℕ, zero, suc, Bool, true, false, cond, List, [], length, Option, Some, None, slice_get, slice_set, refl, sym, ap, ◌∙◌, eqb, arith, nat_tests, find, Value, Instance, Listener, is_instance, put_globals, Ascend, below, number_of, birth_of, FoundAt}
+use Rattle.std.proofs.lemmas.Option.{slice_get_within, slice_get-map}
+use Rattle.std.specs.Option.{option_map}
+use Rattle.live_context.proofs.Common.{ℕ, zero, suc, Bool, true, false, cond, List, [], length, Option, Some, None, slice_get, slice_set, refl, sym, ap, ◌∙◌, eqb, arith, nat_tests, find, map, subst, Value, Instance, Listener, LiveInstance, is_born, is_instance, put_expression, put_globals, Ascend, below, number_of, birth_of, FoundAt, instances_in, counts_in, with_count}
+use Rattle.term_meaning.specs.UnderWay.{UnderWay}
 use Rattle.live_context.specs.Places.{BornAt}
 use Rattle.live_context.proofs.Searching.{before, found_below, has, only, removed_below}
+use Rattle.live_context.proofs.Lists.{map_put, map_put_same}
 
 -- ---- what stands where those with lesser numbers end
 
@@ -39,25 +42,91 @@ put_below number globals (x ∷ xs) y is same = go (put_below number globals xs 
     go rest true e h = let f : is_instance number x ≡ false = lesser x.number number e in rw f (ap (λ ys. x ∷ ys) (rest h same))
     go rest false e h = let s : x ≡ y = cc in let f : is_instance number x ≡ true = ap (is_instance number) s ∙ same in rw f (ap (λ (i : Instance). (record i { globals = globals }) ∷ xs) s)
 
-pub found_there : (number : ℕ) (xs : List Instance) (at : ℕ) (x : Instance) → Ascend number_of 0 xs → at ≡ below number_of number xs → Some x ≡ slice_get xs at → x.number ≡ number → FoundAt number xs at
+-- ---- a count is put there
+
+counts_below : (number n : ℕ) (count : ℕ → ℕ) (low : ℕ) (xs : List Instance) (y : Instance) → Ascend number_of low xs → slice_get xs (below number_of number xs) ≡ Some y → has number_of number y ≡ true → slice_set (map (λ (i : Instance). count i.number) xs) (below number_of number xs) n ≡ map (λ (i : Instance). with_count number n count i.number) xs
+counts_below number n count low [] y a is same = absurd (cc)
+counts_below number n count low (x ∷ xs) y a is same = go (counts_below number n count x.number xs y a.1) (before number_of number x) refl is
+  where
+    lesser : (a b : ℕ) → nat_lt a b ≡ true → eqb a b ≡ false
+    lesser a b h = grind (arith, nat_tests)
+
+    greater : (a b : ℕ) → a < b → eqb b a ≡ false
+    greater a b h = grind (arith, nat_tests)
+
+    equal : (a b : ℕ) → eqb a b ≡ true → a ≡ b
+    equal a b h = grind (arith, nat_tests)
+
+    -- behind it all have greater numbers
+    others : (low : ℕ) (zs : List Instance) → number ≤ low → Ascend number_of low zs → map (λ (i : Instance). count i.number) zs ≡ map (λ (i : Instance). with_count number n count i.number) zs
+    others low [] h a = refl
+    others low (z ∷ zs) h a = let first : low < z.number = a.0 in let f : eqb z.number number ≡ false = greater number z.number (omega arith) in rw f (ap (λ ns. count z.number ∷ ns) (others z.number zs (omega arith) a.1))
+
+    go : (slice_get xs (below number_of number xs) ≡ Some y → has number_of number y ≡ true → slice_set (map (λ (i : Instance). count i.number) xs) (below number_of number xs) n ≡ map (λ (i : Instance). with_count number n count i.number) xs) → (b : Bool) → before number_of number x ≡ b → slice_get (x ∷ xs) (cond b (suc (below number_of number xs)) 0) ≡ Some y → slice_set (map (λ (i : Instance). count i.number) (x ∷ xs)) (cond b (suc (below number_of number xs)) 0) n ≡ map (λ (i : Instance). with_count number n count i.number) (x ∷ xs)
+    go rest true e h = let f : eqb x.number number ≡ false = lesser x.number number e in rw f (ap (λ ns. count x.number ∷ ns) (rest h same))
+    go rest false e h = let s : x ≡ y = cc in let f : eqb x.number number ≡ true = ap (has number_of number) s ∙ same in let z : x.number ≡ number = equal x.number number f in rw f (ap (λ ns. n ∷ ns) (others x.number xs (omega arith) a.1))
+
+instance_there : (xs : List LiveInstance) (at : ℕ) (x : LiveInstance) → Some x ≡ slice_get xs at → Some x.instance ≡ slice_get (instances_in xs) at
+instance_there xs at x is = sym (slice_get-map (λ (y : LiveInstance). y.instance) xs at ∙ ap (option_map (λ (y : LiveInstance). y.instance)) (sym is))
+
+pub no_instance_there : (xs : List LiveInstance) (at : ℕ) → None ≡ slice_get xs at → None ≡ slice_get (instances_in xs) at
+no_instance_there xs at is = sym (slice_get-map (λ (y : LiveInstance). y.instance) xs at ∙ ap (option_map (λ (y : LiveInstance). y.instance)) (sym is))
+
+pub found_none : (number : ℕ) (xs : List LiveInstance) (at : ℕ) → Ascend number_of 0 (instances_in xs) → at ≡ below number_of number (instances_in xs) → None ≡ slice_get xs at → None ≡ find (is_instance number) (instances_in xs)
+found_none number xs at a at_is is = there_none number_of number (instances_in xs) at a at_is (no_instance_there xs at is)
+
+pub found_other : (number : ℕ) (xs : List LiveInstance) (at : ℕ) (x : LiveInstance) → Ascend number_of 0 (instances_in xs) → at ≡ below number_of number (instances_in xs) → Some x ≡ slice_get xs at → eqb x.instance.number number ≡ false → None ≡ find (is_instance number) (instances_in xs)
+found_other number xs at x a at_is is other = there_other number_of number (instances_in xs) at x.instance a at_is (instance_there xs at x is) other
+
+pub found_there : (number : ℕ) (xs : List LiveInstance) (at : ℕ) (x : LiveInstance) → Ascend number_of 0 (instances_in xs) → at ≡ below number_of number (instances_in xs) → Some x ≡ slice_get xs at → x.instance.number ≡ number → FoundAt number xs at
 found_there number xs at x a at_is is same =
-    let here : slice_get xs (below number_of number xs) ≡ Some x = at_below number_of number xs at x at_is is in
-    let has_it : has number_of number x ≡ true = same_number x.number number same in
+    let instances : Some x.instance ≡ slice_get (instances_in xs) at = instance_there xs at x is in
+    let here : slice_get (instances_in xs) (below number_of number (instances_in xs)) ≡ Some x.instance = at_below number_of number (instances_in xs) at x.instance at_is instances in
+    let has_it : has number_of number x.instance ≡ true = same_number x.instance.number number same in
     record {
       found = x;
-      is = sym (there_same number_of number xs at x a at_is is same);
+      is = sym (there_same number_of number (instances_in xs) at x.instance a at_is instances same);
       here = sym is;
+      same = same;
       below = slice_get_within xs at x (sym is);
-      puts = λ globals. rw at_is (put_below number globals xs x here has_it);
-      removes = rw at_is (removed_below number_of 0 number xs x a here has_it);
+      puts = λ globals. rw at_is (put_below number globals (instances_in xs) x.instance here has_it);
+      counts = λ n count. rw at_is (counts_below number n count 0 (instances_in xs) x.instance a here has_it);
+      removes = rw at_is (removed_below number_of 0 number (instances_in xs) x.instance a here has_it);
     }
+
+-- where there is none, the counts are the same
+pub missing_count : (number n : ℕ) (count : ℕ → ℕ) (xs : List Instance) → find (is_instance number) xs ≡ None → map (λ (i : Instance). count i.number) xs ≡ map (λ (i : Instance). with_count number n count i.number) xs
+missing_count number n count [] none = refl
+missing_count number n count (x ∷ xs) none = go (missing_count number n count xs) (is_instance number x) refl none
+  where
+    go : (find (is_instance number) xs ≡ None → map (λ (i : Instance). count i.number) xs ≡ map (λ (i : Instance). with_count number n count i.number) xs) → (b : Bool) → is_instance number x ≡ b → cond b (Some x) (find (is_instance number) xs) ≡ None → map (λ (i : Instance). count i.number) (x ∷ xs) ≡ map (λ (i : Instance). with_count number n count i.number) (x ∷ xs)
+    go rest true e h = absurd (cc)
+    go rest false e h = rw e (ap (λ ns. count x.number ∷ ns) (rest h))
+
+-- ---- an event expression is put there
+
+expression_below : (birth : ℕ) (expression : UnderWay) (xs : List Listener) (y : Listener) → slice_get xs (below birth_of birth xs) ≡ Some y → has birth_of birth y ≡ true → put_expression birth expression xs ≡ slice_set xs (below birth_of birth xs) (record y { expression = expression })
+expression_below birth expression [] y is same = absurd (cc)
+expression_below birth expression (x ∷ xs) y is same = go (expression_below birth expression xs y) (before birth_of birth x) refl is
+  where
+    lesser : (a b : ℕ) → nat_lt a b ≡ true → eqb a b ≡ false
+    lesser a b h = grind (arith, nat_tests)
+
+    go : (slice_get xs (below birth_of birth xs) ≡ Some y → has birth_of birth y ≡ true → put_expression birth expression xs ≡ slice_set xs (below birth_of birth xs) (record y { expression = expression })) → (b : Bool) → before birth_of birth x ≡ b → slice_get (x ∷ xs) (cond b (suc (below birth_of birth xs)) 0) ≡ Some y → put_expression birth expression (x ∷ xs) ≡ slice_set (x ∷ xs) (cond b (suc (below birth_of birth xs)) 0) (record y { expression = expression })
+    go rest true e h = let f : is_born birth x ≡ false = lesser x.birth birth e in rw f (ap (λ ys. x ∷ ys) (rest h same))
+    go rest false e h = let s : x ≡ y = cc in let f : is_born birth x ≡ true = ap (is_born birth) s ∙ same in rw f (ap (λ (l : Listener). (record l { expression = expression }) ∷ xs) s)
 
 pub born_there : (birth : ℕ) (xs : List Listener) (at : ℕ) (x : Listener) → Ascend birth_of 0 xs → at ≡ below birth_of birth xs → Some x ≡ slice_get xs at → x.birth ≡ birth → BornAt birth xs at
 born_there birth xs at x a at_is is same =
     let here : slice_get xs (below birth_of birth xs) ≡ Some x = at_below birth_of birth xs at x at_is is in
+    let has_it : has birth_of birth x ≡ true = same_number x.birth birth same in
     record {
+      found = x;
+      is = sym (there_same birth_of birth xs at x a at_is is same);
+      here = sym is;
       below = slice_get_within xs at x (sym is);
-      removes = rw at_is (removed_below birth_of 0 birth xs x a here (same_number x.birth birth same));
+      puts = λ expression. rw at_is (expression_below birth expression xs x here has_it);
+      removes = rw at_is (removed_below birth_of 0 birth xs x a here has_it);
     }
 
 -- the globals of the first with a number are put twice

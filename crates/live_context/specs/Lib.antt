@@ -1,3 +1,5 @@
+pub mod Counts
 pub mod Lent
 pub mod Order
 pub mod Places
+pub mod Steps

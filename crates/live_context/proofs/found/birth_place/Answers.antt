@@ -2,7 +2,7 @@ use Rattle.std.proofs.Common.{arith, sym}
 use Rattle.std.proofs.lemmas.Bool.Decides.{nat_tests}
 use Rattle.live_context.specs.Order.{birth_of}
 use Rattle.live_context.proofs.Places.{born_there, there_none, there_other}
-use Rattle.live_context.proofs.found.birth_place.Goals as goal
+use Rattle.live_context.proofs.listeners.birth_place.Goals as goal
 
 pub returns-in-None : goal.returns-in-None
 returns-in-None c = sym (there_none birth_of c.args.birth c.args.listeners.now c.count_born-at.result c.requires c.count_born-at.ensures c.in-None.ensures)

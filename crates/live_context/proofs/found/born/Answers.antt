@@ -2,7 +2,7 @@ use Rattle.std.proofs.Common.{arith}
 use Rattle.std.proofs.lemmas.Bool.Decides.{nat_tests}
 use Rattle.live_context.specs.Order.{birth_of}
 use Rattle.live_context.proofs.Places.{there_none, there_other, there_same}
-use Rattle.live_context.proofs.found.born.Goals as goal
+use Rattle.live_context.proofs.listeners.born.Goals as goal
 
 pub returns-in-None : goal.returns-in-None
 returns-in-None c = there_none birth_of c.args.birth c.args.listeners.now c.count_born.result c.requires c.count_born.ensures c.in-None.ensures

@@ -2,7 +2,7 @@ use Rattle.std.proofs.Common.{rules}
 use Rattle.std.proofs.lemmas.List.Sorted.{IsPartitionPoint-from_clause}
 use Rattle.live_context.specs.Order.{birth_of}
 use Rattle.live_context.proofs.Searching.{before, before_first, counted}
-use Rattle.live_context.proofs.found.count_born.Goals as goal
+use Rattle.live_context.proofs.listeners.count_born.Goals as goal
 
 pub returns : goal.returns
 returns c =

@@ -1,5 +1,5 @@
 use Rattle.std.proofs.Common.{◌≡◌, ◌++◌, length, reverse}
-use Rattle.live_context.proofs.found.put_row.Given as goal
+use Rattle.live_context.proofs.front.put_row.Given as goal
 
 abbrev pub invariant-loop-thing : goal.invariant-loop-thing
 invariant-loop-thing l = l.row ++ reverse l.waiting ≡ l.initial.row ++ reverse l.initial.waiting

@@ -1,0 +1,66 @@
+-- A listener is stepped where it stands.
+use Rattle.std.proofs.Common.{◌<◌, ◌≤◌, ◌∷◌, ◌≡◌, ℤ}
+use Rattle.std.specs.List.{All}
+use Rattle.std.proofs.lemmas.Option.{slice_get_within}
+use Rattle.typed_program.specs.declared.program.Program.{Program}
+use Rattle.typed_program.specs.declared.program.Site.{Site}
+use Rattle.term_meaning.specs.declared.stimulus.Stimulus.{Stimulus}
+use Rattle.term_meaning.specs.UnderWay.{left_of}
+use Rattle.event_terms.specs.declared.state.StepOut.{StepOut}
+use Rattle.context_meaning.specs.Contexts.{Context}
+use Rattle.context_meaning.specs.Fits.{ContextFits, ListenerFits}
+use Rattle.live_context.specs.Places.{BornAt}
+use Rattle.live_context.specs.Steps.{AreSame, HasSite, IsSame, StepsAmong, StepsFound, StepsLive, StepsOne, StepsPlace, given_at}
+use Rattle.live_context.proofs.Common.{ℕ, List, [], map, length, Option, Some, None, slice_get, slice_set, find, refl, sym, ap, ◌∙◌, subst, Instance, Listener, is_born, birth_of, owner_of}
+use Rattle.live_context.proofs.Lists.{found_has, map_put_same}
+
+-- ---- what fits
+
+site_there : (program : Program) (begun : ℕ) (is : List Instance) (ls : List Listener) → All (ListenerFits program begun is) ls → All (HasSite program) ls
+site_there program begun is [] all = all
+site_there program begun is (l ∷ ls) all = (slice_get_within program.sites l.site all.0.site all.0.there, site_there program begun is ls all.1)
+
+pub sites_there : (program : Program) (c : Context) → ContextFits program c → All (HasSite program) c.listeners
+sites_there program c fits = site_there program c.begun c.instances c.listeners fits.listeners
+
+pub site_of : (program : Program) (ls : List Listener) (at : ℕ) (l : Listener) → All (HasSite program) ls → slice_get ls at ≡ Some l → HasSite program l
+site_of program [] at l all is = absurd (cc)
+site_of program (x ∷ ls) zero l all is = let s : x ≡ l = cc in subst (HasSite program) s all.0
+site_of program (x ∷ ls) (suc at) l all is = site_of program ls at l all.1 is
+
+-- ---- births and instances stay
+
+pub same_put : (ls ms : List Listener) (at : ℕ) (old new : Listener) → slice_get ls at ≡ Some old → ms ≡ slice_set ls at new → IsSame old new → AreSame ls ms
+same_put ls ms at old new is ms_is same = record {
+  births = ap (map birth_of) ms_is ∙ map_put_same birth_of ls at old new is same.birth;
+  owners = ap (map owner_of) ms_is ∙ map_put_same owner_of ls at old new is same.instance;
+}
+
+-- ---- steps
+
+module _ (program : Program) (s : Stimulus) (now : ℤ) where
+  pub steps_place : (at : ℕ) (ls ms : List Listener) (old new : Listener) (told : StepOut) → ms ≡ slice_set ls at new → StepsOne program s now old told new → StepsPlace program s now at ls old told ms
+  steps_place at ls ms old new told ms_is one = record {
+    new = λ site there. ms_is ∙ ap (slice_set ls at) (one.new site there);
+    tells = one.tells;
+  }
+
+  pub steps_found : (birth at : ℕ) (ls ms : List Listener) (told : StepOut) (b : BornAt birth ls at) → StepsPlace program s now at ls b.found told ms → StepsFound program s now birth ls told ms
+  steps_found birth at ls ms told b one = record {
+    listener = b.found;
+    live = b.is;
+    new = λ site there. one.new site there ∙ sym (b.puts (left_of b.found.expression (given_at program s now b.found site)));
+    tells = one.tells;
+  }
+
+pub steps_live : (program : Program) (s : Stimulus) (birth : ℕ) (c : Context) (ms : List Listener) (told : StepOut) → ContextFits program c → StepsFound program s c.clock birth c.listeners told ms → StepsLive program s birth c told (record c { listeners = ms })
+steps_live program s birth c ms told fits found =
+    let fit = found_has (ListenerFits program c.begun c.instances) (is_born birth) c.listeners found.listener fits.listeners found.live in
+    record {
+      listener = found.listener;
+      live = found.live;
+      site = fit.site;
+      there = fit.there;
+      new = ap (λ xs. record c { listeners = xs }) (found.new fit.site fit.there);
+      tells = found.tells fit.site fit.there;
+    }
