@@ -41,7 +41,7 @@ same_put ls ms at old new is ms_is same = record {
 module _ (program : Program) (s : Stimulus) (now : ℤ) where
   pub steps_place : (at : ℕ) (ls ms : List Listener) (old new : Listener) (told : StepOut) → ms ≡ slice_set ls at new → StepsOne program s now old told new → StepsPlace program s now at ls old told ms
   steps_place at ls ms old new told ms_is one = record {
-    new = λ site there. ms_is ∙ ap (slice_set ls at) (one.new site there);
+    moves = λ site there. ms_is ∙ ap (slice_set ls at) (one.moves site there);
     tells = one.tells;
   }
 
@@ -49,7 +49,7 @@ module _ (program : Program) (s : Stimulus) (now : ℤ) where
   steps_found birth at ls ms told b one = record {
     listener = b.found;
     live = b.is;
-    new = λ site there. one.new site there ∙ sym (b.puts (left_of b.found.expression (given_at program s now b.found site)));
+    moves = λ site there. one.moves site there ∙ sym (b.puts (left_of b.found.expression (given_at program s now b.found site)));
     tells = one.tells;
   }
 
@@ -61,6 +61,6 @@ steps_live program s birth c ms told fits found =
       live = found.live;
       site = fit.site;
       there = fit.there;
-      new = ap (λ xs. record c { listeners = xs }) (found.new fit.site fit.there);
+      moves = ap (λ xs. record c { listeners = xs }) (found.moves fit.site fit.there);
       tells = found.tells fit.site fit.there;
     }

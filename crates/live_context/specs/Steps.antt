@@ -28,7 +28,7 @@ pub record StepsLive (program : Program) (s : Stimulus) (birth : ℕ) (before : 
   pub live : listener_of birth before ≡ Some listener
   pub site : Site
   pub there : slice_get program.sites listener.site ≡ Some site
-  pub new : after ≡ with_expression birth (left_of listener.expression (step_at program before s listener site)) before
+  pub moves : after ≡ with_expression birth (left_of listener.expression (step_at program before s listener site)) before
   pub tells : Tells (step_at program before s listener site) listener.expression.next told
 
 -- the listener of a birth is stepped, where it is live; else nothing is told, and nothing changes
@@ -44,19 +44,19 @@ given_at program s now l site = stepped_in (setting_of program.types site l.expr
 
 -- a listener is stepped at a time
 pub record StepsOne (program : Program) (s : Stimulus) (now : ℤ) (old : Listener) (told : StepOut) (new : Listener) : Type 0 where
-  pub new : (site : Site) → slice_get program.sites old.site ≡ Some site → new ≡ record old { expression = left_of old.expression (given_at program s now old site) }
+  pub moves : (site : Site) → slice_get program.sites old.site ≡ Some site → new ≡ record old { expression = left_of old.expression (given_at program s now old site) }
   pub tells : (site : Site) → slice_get program.sites old.site ≡ Some site → Tells (given_at program s now old site) old.expression.next told
 
 -- the listener at a place is stepped at a time
 pub record StepsPlace (program : Program) (s : Stimulus) (now : ℤ) (at : ℕ) (old : List Listener) (listener : Listener) (told : StepOut) (new : List Listener) : Type 0 where
-  pub new : (site : Site) → slice_get program.sites listener.site ≡ Some site → new ≡ slice_set old at (record listener { expression = left_of listener.expression (given_at program s now listener site) })
+  pub moves : (site : Site) → slice_get program.sites listener.site ≡ Some site → new ≡ slice_set old at (record listener { expression = left_of listener.expression (given_at program s now listener site) })
   pub tells : (site : Site) → slice_get program.sites listener.site ≡ Some site → Tells (given_at program s now listener site) listener.expression.next told
 
 -- the listener of a birth is stepped at a time
 pub record StepsFound (program : Program) (s : Stimulus) (now : ℤ) (birth : ℕ) (old : List Listener) (told : StepOut) (new : List Listener) : Type 0 where
   pub listener : Listener
   pub live : find (is_born birth) old ≡ Some listener
-  pub new : (site : Site) → slice_get program.sites listener.site ≡ Some site → new ≡ put_expression birth (left_of listener.expression (given_at program s now listener site)) old
+  pub moves : (site : Site) → slice_get program.sites listener.site ≡ Some site → new ≡ put_expression birth (left_of listener.expression (given_at program s now listener site)) old
   pub tells : (site : Site) → slice_get program.sites listener.site ≡ Some site → Tells (given_at program s now listener site) listener.expression.next told
 
 abbrev pub StepsAmong : Program → Stimulus → ℤ → ℕ → List Listener → Option StepOut → List Listener → Type 0

@@ -1,4 +1,4 @@
-ghost use Rattle.std.specs.Prelude.{◌≡◌, ◌<◌, ◌≤ℤ◌, ◌^◌, pos, length, IfOk, Some, slice_get};
+ghost use Rattle.std.specs.Prelude.{◌≡◌, ◌<◌, ◌≤ℤ◌, ◌-◌, ◌^◌, pos, length, IfOk, Some, slice_get};
 ghost use Rattle.typed_program.specs.Typed.{Typed};
 ghost use Rattle.term_shapes.specs.Kept.{HeardFits};
 ghost use Rattle.context_meaning.specs.Listeners.{Listener};
