@@ -1,5 +1,5 @@
 -- How many listeners instances have, where listeners come and go.
-use Rattle.std.proofs.Common.{◌+◌, ◌-◌, ◌<◌, ◌≤◌, ◌∷◌, ◌++◌, ◌≡◌}
+use Rattle.std.proofs.Common.{◌+◌, ◌-◌, ◌<◌, ◌≤◌, ◌∷◌, ◌++◌, ◌||◌, ◌≡◌}
 use Rattle.std.specs.List.{list_any}
 use Rattle.std.proofs.lemmas.List.{length-append}
 use Rattle.std.proofs.lemmas.List.Elements.{filter-append}
@@ -34,11 +34,11 @@ counts_as f g is counts same are = are ∙ map_same (λ (i : Instance). f i.numb
 
 pub counts_globals : (count : ℕ → ℕ) (number : ℕ) (globals : List Value) (is : List Instance) → map (λ (i : Instance). count i.number) (put_globals number globals is) ≡ map (λ (i : Instance). count i.number) is
 counts_globals count number globals [] = refl
-counts_globals count number globals (i ∷ is) = go (is_instance number i)
+counts_globals count number globals (i ∷ is) = go (is_instance number i) (counts_globals count number globals is)
   where
-    go : (b : Bool) → map (λ (j : Instance). count j.number) (cond b ((record i { globals = globals }) ∷ is) (i ∷ put_globals number globals is)) ≡ map (λ (j : Instance). count j.number) (i ∷ is)
-    go true = refl
-    go false = ap (λ ns. count i.number ∷ ns) (counts_globals count number globals is)
+    go : (b : Bool) → map (λ (j : Instance). count j.number) (put_globals number globals is) ≡ map (λ (j : Instance). count j.number) is → map (λ (j : Instance). count j.number) (cond b ((record i { globals = globals }) ∷ is) (i ∷ put_globals number globals is)) ≡ map (λ (j : Instance). count j.number) (i ∷ is)
+    go true rest = refl
+    go false rest = ap (λ ns. count i.number ∷ ns) rest
 
 -- ---- none
 
@@ -68,19 +68,16 @@ more_counts ls l k = with_count_is l.instance (count_its ls l.instance + 1) k (c
     there h = let none : count_its ls k + 0 ≡ count_its ls k = omega arith in sym (count_push k ls l ∙ ap (λ b. count_its ls k + cond b 1 0) h ∙ none)
 
 -- no instance has more listeners than were born
-pub count_within : (n : Listener → ℕ) (low high k : ℕ) (ls : List Listener) → Ascend n low ls → Within n high ls → count_its ls k ≤ high
-count_within n low high k ls a w = let few : count_its ls k ≤ high - low = within low ls a w in omega arith
-  where
-    within : (low : ℕ) (ls : List Listener) → Ascend n low ls → Within n high ls → count_its ls k ≤ high - low
-    within low [] a w = omega arith
-    within low (l ∷ ls) a w = go (is_its k l)
-      where
-        rest : count_its ls k ≤ high - n l
-        rest = within (n l) ls a.1 w.1
+room_step : (b : Bool) (l : Listener) (its : List Listener) (low at high : ℕ) → low < at → at ≤ high → length its ≤ high - at → length (cond b (l ∷ its) its) ≤ high - low
+room_step true l its low at high above under rest = omega arith
+room_step false l its low at high above under rest = omega arith
 
-        go : (b : Bool) → length (cond b (l ∷ filter (is_its k) ls) (filter (is_its k) ls)) ≤ high - low
-        go true = let above : low < n l = a.0 in let under : n l ≤ high = w.0 in let r : count_its ls k ≤ high - n l = rest in omega arith
-        go false = let above : low < n l = a.0 in let r : count_its ls k ≤ high - n l = rest in omega arith
+count_room : (n : Listener → ℕ) (low high k : ℕ) (ls : List Listener) → Ascend n low ls → Within n high ls → count_its ls k ≤ high - low
+count_room n low high k [] a w = omega arith
+count_room n low high k (l ∷ ls) a w = room_step (is_its k l) l (filter (is_its k) ls) low (n l) high a.0 w.0 (count_room n (n l) high k ls a.1 w.1)
+
+pub count_within : (n : Listener → ℕ) (high k : ℕ) (ls : List Listener) → Ascend n 0 ls → Within n high ls → count_its ls k ≤ high
+count_within n high k ls a w = let few : count_its ls k ≤ high - 0 = count_room n 0 high k ls a w in omega arith
 
 -- ---- one less
 
@@ -93,20 +90,20 @@ count_cons k l ls = count_in_front k l ls (is_its k l)
 
 count_taken : (b low k : ℕ) (ls : List Listener) (l : Listener) → Ascend birth_of low ls → find (is_born b) ls ≡ Some l → count_its ls k ≡ count_its (filter (λ m. not (is_born b m)) ls) k + cond (is_its k l) 1 0
 count_taken b low k [] l a is = absurd (cc)
-count_taken b low k (m ∷ ls) l a is = go (is_born b m) refl is
+count_taken b low k (m ∷ ls) l a is = go (count_taken b m.birth k ls l a.1) (is_born b m) refl is
   where
     swapped : (x y z w : ℕ) → x ≡ y + z → x + w ≡ (y + w) + z
     swapped x y z w h = omega arith
 
-    go : (c : Bool) → is_born b m ≡ c → cond c (Some m) (find (is_born b) ls) ≡ Some l → count_its (m ∷ ls) k ≡ count_its (cond (not c) (m ∷ filter (λ m. not (is_born b m)) ls) (filter (λ m. not (is_born b m)) ls)) k + cond (is_its k l) 1 0
-    go true e h =
+    go : (find (is_born b) ls ≡ Some l → count_its ls k ≡ count_its (filter (λ m. not (is_born b m)) ls) k + cond (is_its k l) 1 0) → (c : Bool) → is_born b m ≡ c → cond c (Some m) (find (is_born b) ls) ≡ Some l → count_its (m ∷ ls) k ≡ count_its (cond (not c) (m ∷ filter (λ m. not (is_born b m)) ls) (filter (λ m. not (is_born b m)) ls)) k + cond (is_its k l) 1 0
+    go rest true e h =
       let s : m ≡ l = cc in
       let born : m.birth ≡ b = equal m.birth b e in
       let under : b ≤ m.birth = omega arith in
       let stay : ls ≡ filter (hasnt birth_of b) ls = all_stay birth_of m.birth b ls under a.1 in
       count_cons k m ls ∙ ap (λ (x : Listener). count_its ls k + cond (is_its k x) 1 0) s ∙ ap (λ xs. count_its xs k + cond (is_its k l) 1 0) stay
-    go false e h =
-      count_cons k m ls ∙ swapped (count_its ls k) (count_its (filter (λ m. not (is_born b m)) ls) k) (cond (is_its k l) 1 0) (cond (is_its k m) 1 0) (count_taken b m.birth k ls l a.1 h) ∙ ap (λ n. n + cond (is_its k l) 1 0) (sym (count_cons k m (filter (λ m. not (is_born b m)) ls)))
+    go rest false e h =
+      count_cons k m ls ∙ swapped (count_its ls k) (count_its (filter (λ m. not (is_born b m)) ls) k) (cond (is_its k l) 1 0) (cond (is_its k m) 1 0) (rest h) ∙ ap (λ n. n + cond (is_its k l) 1 0) (sym (count_cons k m (filter (λ m. not (is_born b m)) ls)))
 
 pub less_counts : (b low : ℕ) (ls : List Listener) (l : Listener) → Ascend birth_of low ls → find (is_born b) ls ≡ Some l → (k : ℕ) → with_count l.instance (count_its ls l.instance - 1) (count_its ls) k ≡ count_its (filter (λ m. not (is_born b m)) ls) k
 less_counts b low ls l a is k = with_count_is l.instance (count_its ls l.instance - 1) k (count_its (filter (λ m. not (is_born b m)) ls) k) (count_its ls) here there
@@ -130,22 +127,22 @@ less_counts b low ls l a is k = with_count_is l.instance (count_its ls l.instanc
 
 none_left : (j : ℕ) (ls : List Listener) → count_its (filter (λ l. not (is_its j l)) ls) j ≡ 0
 none_left j [] = refl
-none_left j (l ∷ ls) = go (is_its j l) refl
+none_left j (l ∷ ls) = go (none_left j ls) (is_its j l) refl
   where
-    go : (b : Bool) → is_its j l ≡ b → count_its (cond (not b) (l ∷ filter (λ l. not (is_its j l)) ls) (filter (λ l. not (is_its j l)) ls)) j ≡ 0
-    go true e = none_left j ls
-    go false e = rw e (none_left j ls)
+    go : count_its (filter (λ l. not (is_its j l)) ls) j ≡ 0 → (b : Bool) → is_its j l ≡ b → count_its (cond (not b) (l ∷ filter (λ l. not (is_its j l)) ls) (filter (λ l. not (is_its j l)) ls)) j ≡ 0
+    go rest true e = rest
+    go rest false e = rw e rest
 
 others_stay : (j k : ℕ) (ls : List Listener) → eqb j k ≡ false → count_its ls k ≡ count_its (filter (λ l. not (is_its j l)) ls) k
 others_stay j k [] h = refl
-others_stay j k (l ∷ ls) h = go (is_its j l) refl
+others_stay j k (l ∷ ls) h = go (others_stay j k ls h) (is_its j l) refl
   where
     apart : (a j k : ℕ) → eqb a j ≡ true → eqb j k ≡ false → eqb a k ≡ false
-    apart a j k e h = grind (arith, nat_tests)
+    apart a j k e h = subst (λ m. eqb m k ≡ false) (sym (equal a j e)) h
 
-    go : (b : Bool) → is_its j l ≡ b → count_its (l ∷ ls) k ≡ count_its (cond (not b) (l ∷ filter (λ l. not (is_its j l)) ls) (filter (λ l. not (is_its j l)) ls)) k
-    go true e = rw (apart l.instance j k e h) (others_stay j k ls h)
-    go false e = count_cons k l ls ∙ ap (λ n. n + cond (is_its k l) 1 0) (others_stay j k ls h) ∙ sym (count_cons k l (filter (λ l. not (is_its j l)) ls))
+    go : count_its ls k ≡ count_its (filter (λ l. not (is_its j l)) ls) k → (b : Bool) → is_its j l ≡ b → count_its (l ∷ ls) k ≡ count_its (cond (not b) (l ∷ filter (λ l. not (is_its j l)) ls) (filter (λ l. not (is_its j l)) ls)) k
+    go rest true e = rw (apart l.instance j k e h) rest
+    go rest false e = count_cons k l ls ∙ ap (λ n. n + cond (is_its k l) 1 0) rest ∙ sym (count_cons k l (filter (λ l. not (is_its j l)) ls))
 
 pub no_counts : (j : ℕ) (ls : List Listener) (k : ℕ) → with_count j 0 (count_its ls) k ≡ count_its (filter (λ l. not (is_its j l)) ls) k
 no_counts j ls k = with_count_is j 0 k (count_its (filter (λ l. not (is_its j l)) ls) k) (count_its ls) (λ h. sym (ap (count_its (filter (λ l. not (is_its j l)) ls)) h ∙ none_left j ls)) (others_stay j k ls)
@@ -154,30 +151,33 @@ no_counts j ls k = with_count_is j 0 k (count_its (filter (λ l. not (is_its j l
 
 pub any_its : (k : ℕ) (ls : List Listener) → list_any (is_its k) ls ≡ not (eqb (count_its ls k) 0)
 any_its k [] = refl
-any_its k (l ∷ ls) = go (is_its k l) refl
+any_its k (l ∷ ls) = go (any_its k ls) (is_its k l)
   where
-    go : (b : Bool) → is_its k l ≡ b → list_any (is_its k) (l ∷ ls) ≡ not (eqb (length (cond b (l ∷ filter (is_its k) ls) (filter (is_its k) ls))) 0)
-    go true e = rw e refl
-    go false e = rw e (any_its k ls)
+    some : (n : ℕ) → true ≡ not (eqb (suc n) 0)
+    some n = grind (arith, nat_tests)
+
+    go : list_any (is_its k) ls ≡ not (eqb (count_its ls k) 0) → (b : Bool) → (b || list_any (is_its k) ls) ≡ not (eqb (length (cond b (l ∷ filter (is_its k) ls) (filter (is_its k) ls))) 0)
+    go rest true = some (count_its ls k)
+    go rest false = rest
 
 -- where there is none, none goes
 pub idle_stay : (j : ℕ) (ls : List Listener) → list_any (is_its j) ls ≡ false → ls ≡ filter (λ l. not (is_its j l)) ls
 idle_stay j [] none = refl
-idle_stay j (l ∷ ls) none = go (is_its j l) refl none
+idle_stay j (l ∷ ls) none = go (idle_stay j ls) (is_its j l) none
   where
-    go : (b : Bool) → is_its j l ≡ b → (b || list_any (is_its j) ls) ≡ false → (l ∷ ls) ≡ cond (not b) (l ∷ filter (λ l. not (is_its j l)) ls) (filter (λ l. not (is_its j l)) ls)
-    go true e h = absurd (cc)
-    go false e h = ap (λ ms. l ∷ ms) (idle_stay j ls h)
+    go : (list_any (is_its j) ls ≡ false → ls ≡ filter (λ l. not (is_its j l)) ls) → (b : Bool) → (b || list_any (is_its j) ls) ≡ false → (l ∷ ls) ≡ cond (not b) (l ∷ filter (λ l. not (is_its j l)) ls) (filter (λ l. not (is_its j l)) ls)
+    go rest true h = absurd (cc)
+    go rest false h = ap (λ ms. l ∷ ms) (rest h)
 
 -- ---- by the instances of listeners alone
 
 pub count_owners : (k : ℕ) (ls : List Listener) → count_its ls k ≡ length (filter (λ n. eqb n k) (map owner_of ls))
 count_owners k [] = refl
-count_owners k (l ∷ ls) = go (is_its k l)
+count_owners k (l ∷ ls) = go (count_owners k ls) (is_its k l)
   where
-    go : (b : Bool) → length (cond b (l ∷ filter (is_its k) ls) (filter (is_its k) ls)) ≡ length (cond b (l.instance ∷ filter (λ n. eqb n k) (map owner_of ls)) (filter (λ n. eqb n k) (map owner_of ls)))
-    go true = ap suc (count_owners k ls)
-    go false = count_owners k ls
+    go : count_its ls k ≡ length (filter (λ n. eqb n k) (map owner_of ls)) → (b : Bool) → length (cond b (l ∷ filter (is_its k) ls) (filter (is_its k) ls)) ≡ length (cond b (l.instance ∷ filter (λ n. eqb n k) (map owner_of ls)) (filter (λ n. eqb n k) (map owner_of ls)))
+    go rest true = ap suc rest
+    go rest false = rest
 
 pub count_same : (ls ms : List Listener) → map owner_of ms ≡ map owner_of ls → (k : ℕ) → count_its ls k ≡ count_its ms k
 count_same ls ms same k = count_owners k ls ∙ ap (λ ns. length (filter (λ n. eqb n k) ns)) (sym same) ∙ sym (count_owners k ms)

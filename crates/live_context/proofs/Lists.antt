@@ -2,7 +2,8 @@
 use Rattle.std.proofs.Common.{◌<◌, ◌≤◌, ◌∷◌, ◌++◌, ◌≡◌}
 use Rattle.std.specs.Prelude.{nat_lt}
 use Rattle.std.specs.List.{All, remove}
-use Rattle.live_context.proofs.Common.{ℕ, zero, suc, Bool, true, false, cond, List, [], map, length, filter, find, Option, Some, None, slice_get, slice_set, refl, sym, ap, ◌∙◌, subst, Ascend, Within, below}
+use Rattle.std.proofs.lemmas.List.Elements.{All-head, All-tail}
+use Rattle.live_context.proofs.Common.{ℕ, zero, suc, Bool, true, false, cond, List, [], map, length, filter, find, Option, Some, None, slice_get, slice_set, refl, sym, ap, ◌∙◌, subst, arith, Ascend, Within, below}
 
 pub map_same : {A B : Type 0} (f g : A → B) → ((x : A) → f x ≡ g x) → (xs : List A) → map f xs ≡ map g xs
 map_same f g same [] = refl
@@ -26,15 +27,26 @@ map_removed f (x ∷ xs) zero = refl
 map_removed f (x ∷ xs) (suc at) = ap (λ ys. f x ∷ ys) (map_removed f xs at)
 
 -- what holds of all holds of one that is found
+found_step : {A : Type 0} (P : A → Type 0) (b : Bool) (y x : A) (o : Option A) → P y → (o ≡ Some x → P x) → cond b (Some y) o ≡ Some x → P x
+found_step P true y x o holds rest is = let s : y ≡ x = cc in subst P s holds
+found_step P false y x o holds rest is = rest is
+
 pub found_has : {A : Type 0} (P : A → Type 0) (p : A → Bool) (xs : List A) (x : A) → All P xs → find p xs ≡ Some x → P x
 found_has P p [] x all is = absurd (cc)
-found_has P p (y ∷ ys) x all is = go (p y) refl is
-  where
-    go : (b : Bool) → p y ≡ b → cond b (Some y) (find p ys) ≡ Some x → P x
-    go true e h = let s : y ≡ x = cc in subst P s all.0
-    go false e h = found_has P p ys x all.1 h
+found_has P p (y ∷ ys) x all is = found_step P (p y) y x (find p ys) (All-head P y ys all) (found_has P p ys x (All-tail P y ys all)) is
+
+-- and of one that stands at a place
+pub placed_has : {A : Type 0} (P : A → Type 0) (xs : List A) (at : ℕ) (x : A) → All P xs → slice_get xs at ≡ Some x → P x
+placed_has P [] at x all is = absurd (cc)
+placed_has P (y ∷ ys) zero x all is = let s : y ≡ x = cc in subst P s (All-head P y ys all)
+placed_has P (y ∷ ys) (suc at) x all is = placed_has P ys at x (All-tail P y ys all) is
 
 -- ---- numbers of a part
+
+-- a lesser bound
+pub lower : {A : Type 0} (n : A → ℕ) (low least : ℕ) (xs : List A) → least ≤ low → Ascend n low xs → Ascend n least xs
+lower n low least [] h a = tt
+lower n low least (x ∷ xs) h a = let first : low < n x = a.0 in (omega arith, a.1)
 
 pub ascend_in : {A B : Type 0} (f : A → B) (n : B → ℕ) (low : ℕ) (xs : List A) → Ascend n low (map f xs) → Ascend (λ x. n (f x)) low xs
 ascend_in f n low [] a = tt

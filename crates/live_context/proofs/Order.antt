@@ -1,15 +1,12 @@
 -- Ascending numbers, where things come and go.
-use Rattle.std.proofs.Common.{◌+◌, ◌<◌, ◌≤◌, ◌∷◌, ◌++◌, ◌≡◌}
+use Rattle.std.proofs.Common.{◌+◌, ◌-◌, ◌<◌, ◌≤◌, ◌∷◌, ◌++◌, ◌≡◌}
 use Rattle.std.proofs.lemmas.List.{map-append}
-use Rattle.live_context.proofs.Common.{ℕ, List, [], Bool, true, false, cond, filter, map, refl, subst, sym, ap, ◌∙◌, arith, Value, Instance, Listener, is_instance, put_globals, Ascend, Within, InOrder, number_of, birth_of, owner_of, AreCounts, count_its, with_count}
+use Rattle.live_context.proofs.Common.{ℕ, List, [], Bool, true, false, cond, filter, map, refl, subst, sym, ap, ◌∙◌, arith, Value, Instance, Listener, is_instance, put_globals, Ascend, Within, InOrder, number_of, birth_of, owner_of, AreCounts, count_its, with_count, is_born, is_its, not, find, Option, Some, None}
+use Rattle.std.specs.Option.{option_map}
+use Rattle.live_context.proofs.Searching.{missing_below}
 use Rattle.live_context.specs.Steps.{AreSame}
 use Rattle.live_context.proofs.Counting.{counts_as, counts_globals, count_same, less_counts, more_counts, no_counts, none_its}
-use Rattle.live_context.proofs.Lists.{ascend_same, within_same}
-
--- a lesser bound
-pub lower : {A : Type 0} (n : A → ℕ) (low least : ℕ) (xs : List A) → least ≤ low → Ascend n low xs → Ascend n least xs
-lower n low least [] h a = tt
-lower n low least (x ∷ xs) h a = let first : low < n x = a.0 in (omega arith, a.1)
+use Rattle.live_context.proofs.Lists.{ascend_same, lower, within_same}
 
 -- one at the front, which stays or goes
 ascend_step : {A : Type 0} (n : A → ℕ) (low : ℕ) (b : Bool) (x : A) (xs : List A) → low < n x → Ascend n (n x) xs → Ascend n low (cond b (x ∷ xs) xs)
@@ -122,3 +119,24 @@ module _ (births begun : ℕ) (ls : List Listener) (is : List Instance) (counts 
     numbers_within = o.numbers_within;
     counted = counts_as (count_its ls) (count_its ms) is counts (count_same ls ms same.owners) o.counted;
   }
+
+  -- the listener of a birth goes, where it lives
+  pub order_gone : (birth : ℕ) (ms : List Listener) (new : List Instance) (new_counts : List ℕ) (n : ℕ) → Some n ≡ option_map owner_of (find (is_born birth) ls) → ms ≡ filter (λ l. not (is_born birth l)) ls → new ≡ is → AreCounts (with_count n (count_its ls n - 1) (count_its ls)) new new_counts → InOrder births begun ls is counts → InOrder births begun ms new new_counts
+  order_gone birth ms new new_counts n n_is ms_is new_is counted o = go (find (is_born birth) ls) refl n_is
+    where
+      go : (found : Option Listener) → find (is_born birth) ls ≡ found → Some n ≡ option_map owner_of found → InOrder births begun ms new new_counts
+      go None e h = absurd (cc)
+      go (Some l) e h =
+        let same : n ≡ l.instance = cc in
+        order_quit (λ m. not (is_born birth m)) ms new new_counts ms_is new_is (counts_as (with_count l.instance (count_its ls l.instance - 1) (count_its ls)) (count_its (filter (λ m. not (is_born birth m)) ls)) new new_counts (less_counts birth 0 ls l o.births_ascend e) (subst (λ k. AreCounts (with_count k (count_its ls k - 1) (count_its ls)) new new_counts) same counted)) o
+
+  pub order_none_gone : (birth : ℕ) (ms : List Listener) → None ≡ option_map owner_of (find (is_born birth) ls) → ms ≡ filter (λ l. not (is_born birth l)) ls → InOrder births begun ls is counts → InOrder births begun ms is counts
+  order_none_gone birth ms none ms_is o = subst (λ xs. InOrder births begun xs is counts) (missing_below birth_of 0 birth ls o.births_ascend (go (find (is_born birth) ls) none) ∙ sym ms_is) o
+    where
+      go : (found : Option Listener) → None ≡ option_map owner_of found → found ≡ None
+      go None h = refl
+      go (Some l) h = absurd (cc)
+
+  -- the listeners of an instance go
+  pub order_all_gone : (instance : ℕ) (ms : List Listener) (new : List Instance) (new_counts : List ℕ) → ms ≡ filter (λ l. not (is_its instance l)) ls → new ≡ is → AreCounts (with_count instance 0 (count_its ls)) new new_counts → InOrder births begun ls is counts → InOrder births begun ms new new_counts
+  order_all_gone instance ms new new_counts ms_is new_is counted o = order_quit (λ l. not (is_its instance l)) ms new new_counts ms_is new_is (counts_as (with_count instance 0 (count_its ls)) (count_its (filter (λ l. not (is_its instance l)) ls)) new new_counts (no_counts instance ls) counted) o

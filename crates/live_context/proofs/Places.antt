@@ -1,13 +1,14 @@
 -- Instances and listeners at the places where they are found.
-use Rattle.std.proofs.Common.{◌<◌, ◌∷◌, ◌≡◌}
-use Rattle.std.specs.Prelude.{nat_lt}
-use Rattle.std.proofs.lemmas.Option.{slice_get_within, slice_get-map}
+use Rattle.std.proofs.Common.{◌<◌, ◌≤◌, ◌∷◌, ◌≡◌}
+use Rattle.std.specs.Prelude.{get_or, nat_lt}
+use Rattle.std.specs.List.{remove}
+use Rattle.std.proofs.lemmas.Option.{get_or_from_slice_get, slice_get_within, slice_get-map}
 use Rattle.std.specs.Option.{option_map}
-use Rattle.live_context.proofs.Common.{ℕ, zero, suc, Bool, true, false, cond, List, [], length, Option, Some, None, slice_get, slice_set, refl, sym, ap, ◌∙◌, eqb, arith, nat_tests, find, map, subst, Value, Instance, Listener, LiveInstance, is_born, is_instance, put_expression, put_globals, Ascend, below, number_of, birth_of, FoundAt, instances_in, counts_in, with_count}
+use Rattle.live_context.proofs.Common.{ℕ, zero, suc, Bool, true, false, cond, List, [], length, Option, Some, None, slice_get, slice_set, refl, sym, ap, ◌∙◌, eqb, arith, nat_tests, find, map, subst, Value, Instance, Listener, LiveInstance, is_born, is_instance, put_expression, put_globals, Ascend, below, number_of, birth_of, FoundAt, instances_in, counts_in, with_count, AreCounts, owner_of, filter, not}
 use Rattle.term_meaning.specs.UnderWay.{UnderWay}
 use Rattle.live_context.specs.Places.{BornAt}
 use Rattle.live_context.proofs.Searching.{before, found_below, has, only, removed_below}
-use Rattle.live_context.proofs.Lists.{map_put, map_put_same}
+use Rattle.live_context.proofs.Lists.{map_put, map_put_same, map_removed}
 
 -- ---- what stands where those with lesser numbers end
 
@@ -94,6 +95,37 @@ found_there number xs at x a at_is is same =
       removes = rw at_is (removed_below number_of 0 number (instances_in xs) x.instance a here has_it);
     }
 
+-- ---- what is found of it, and what is put there
+
+module _ (number : ℕ) (xs : List LiveInstance) (at : ℕ) (f : FoundAt number xs at) where
+  pub count_there : (n : ℕ) → n ≡ f.found.listeners → (count : ℕ → ℕ) → AreCounts count (instances_in xs) (counts_in xs) → n ≡ count number
+  count_there n n_is count are =
+      let seen : slice_get (counts_in xs) at ≡ Some f.found.listeners = slice_get-map (λ (x : LiveInstance). x.listeners) xs at ∙ ap (option_map (λ (x : LiveInstance). x.listeners)) f.here in
+      let counted : slice_get (map (λ (i : Instance). count i.number) (instances_in xs)) at ≡ Some (count f.found.instance.number) = slice_get-map (λ (i : Instance). count i.number) (instances_in xs) at ∙ ap (option_map (λ (i : Instance). count i.number)) (sym (instance_there xs at f.found (sym f.here))) in
+      let both : Some f.found.listeners ≡ Some (count f.found.instance.number) = sym seen ∙ ap (λ ns. slice_get ns at) are ∙ counted in
+      let same : f.found.listeners ≡ count f.found.instance.number = cc in
+      n_is ∙ same ∙ ap count f.same
+
+  pub counted_instances : (n : ℕ) (ys : List LiveInstance) → ys ≡ slice_set xs at (record f.found { listeners = n }) → instances_in ys ≡ instances_in xs
+  counted_instances n ys ys_is = ap instances_in ys_is ∙ map_put_same (λ (x : LiveInstance). x.instance) xs at f.found (record f.found { listeners = n }) f.here refl
+
+  pub counted_counts : (n : ℕ) (ys : List LiveInstance) → ys ≡ slice_set xs at (record f.found { listeners = n }) → (count : ℕ → ℕ) → AreCounts count (instances_in xs) (counts_in xs) → AreCounts (with_count number n count) (instances_in ys) (counts_in ys)
+  counted_counts n ys ys_is count are =
+      ap counts_in ys_is ∙ map_put (λ (x : LiveInstance). x.listeners) xs at (record f.found { listeners = n }) ∙ ap (λ ns. slice_set ns at n) are ∙ f.counts n count ∙ ap (map (λ (i : Instance). with_count number n count i.number)) (sym (counted_instances n ys ys_is))
+
+  pub lent_instances : (globals : List Value) (ys : List LiveInstance) → ys ≡ slice_set xs at (record f.found { instance = record f.found.instance { globals = globals } }) → instances_in ys ≡ put_globals number globals (instances_in xs)
+  lent_instances globals ys ys_is = ap instances_in ys_is ∙ map_put (λ (x : LiveInstance). x.instance) xs at (record f.found { instance = record f.found.instance { globals = globals } }) ∙ sym (f.puts globals)
+
+  pub lent_counts : (globals : List Value) (ys : List LiveInstance) → ys ≡ slice_set xs at (record f.found { instance = record f.found.instance { globals = globals } }) → counts_in ys ≡ counts_in xs
+  lent_counts globals ys ys_is = ap counts_in ys_is ∙ map_put_same (λ (x : LiveInstance). x.listeners) xs at f.found (record f.found { instance = record f.found.instance { globals = globals } }) f.here refl
+
+  pub taken_instances : (ys : List LiveInstance) → ys ≡ remove xs at → instances_in ys ≡ filter (λ i. not (is_instance number i)) (instances_in xs)
+  taken_instances ys ys_is = ap instances_in ys_is ∙ map_removed (λ (x : LiveInstance). x.instance) xs at ∙ f.removes
+
+  pub taken_counts : (ys : List LiveInstance) → ys ≡ remove xs at → (count : ℕ → ℕ) → AreCounts count (instances_in xs) (counts_in xs) → AreCounts count (instances_in ys) (counts_in ys)
+  taken_counts ys ys_is count are =
+      ap counts_in ys_is ∙ map_removed (λ (x : LiveInstance). x.listeners) xs at ∙ ap (λ ns. remove ns at) are ∙ sym (map_removed (λ (i : Instance). count i.number) (instances_in xs) at) ∙ ap (map (λ (i : Instance). count i.number)) (sym (map_removed (λ (x : LiveInstance). x.instance) xs at) ∙ ap instances_in (sym ys_is))
+
 -- where there is none, the counts are the same
 pub missing_count : (number n : ℕ) (count : ℕ → ℕ) (xs : List Instance) → find (is_instance number) xs ≡ None → map (λ (i : Instance). count i.number) xs ≡ map (λ (i : Instance). with_count number n count i.number) xs
 missing_count number n count [] none = refl
@@ -128,6 +160,12 @@ born_there birth xs at x a at_is is same =
       puts = λ expression. rw at_is (expression_below birth expression xs x here has_it);
       removes = rw at_is (removed_below birth_of 0 birth xs x a here has_it);
     }
+
+-- the instance of a listener that was taken from its place
+pub gone_owner : (birth : ℕ) (xs : List Listener) (at : ℕ) (b : BornAt birth xs at) (x : Listener) (n : ℕ) → x ≡ get_or xs at x → n ≡ x.instance → Some n ≡ option_map owner_of (find (is_born birth) xs)
+gone_owner birth xs at b x n x_is n_is =
+    let same : x ≡ b.found = x_is ∙ get_or_from_slice_get xs at b.found x b.here in
+    ap Some (n_is ∙ ap owner_of same) ∙ ap (option_map owner_of) (sym b.is)
 
 -- the globals of the first with a number are put twice
 pub put_put : (number : ℕ) (before globals : List Value) (xs : List Instance) → put_globals number globals (put_globals number before xs) ≡ put_globals number globals xs

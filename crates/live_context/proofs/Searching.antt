@@ -4,7 +4,6 @@ use Rattle.std.specs.Prelude.{slice_index_or, nat_lt}
 use Rattle.std.specs.List.{remove}
 use Rattle.std.specs.List.Sorted.{IsPartitionedBy, IsPartitionPoint}
 use Rattle.live_context.proofs.Common.{ℕ, zero, suc, Bool, true, false, cond, not, List, [], length, Option, Some, None, slice_get, slice_set, take, drop, filter, find, eqb, ltb, refl, sym, ap, ◌∙◌, arith, nat_tests, Value, Instance, is_instance, put_globals, FoundAt, Ascend, below, number_of}
-use Rattle.live_context.proofs.Order.{lower}
 
 abbrev pub before : {A : Type 0} → (A → ℕ) → ℕ → A → Bool
 before n k x = nat_lt (n x) k
@@ -56,7 +55,7 @@ none_above : {A : Type 0} (n : A → ℕ) (low k : ℕ) (xs : List A) → k ≤ 
 none_above n low k [] h a = refl
 none_above n low k (x ∷ xs) h a = let first : low < n x = a.0 in let other : has n k x ≡ false = greater (n x) k (omega arith) in rw other (none_above n (n x) k xs (omega arith) a.1)
 
-all_stay : {A : Type 0} (n : A → ℕ) (low k : ℕ) (xs : List A) → k ≤ low → Ascend n low xs → xs ≡ filter (hasnt n k) xs
+pub all_stay : {A : Type 0} (n : A → ℕ) (low k : ℕ) (xs : List A) → k ≤ low → Ascend n low xs → xs ≡ filter (hasnt n k) xs
 all_stay n low k [] h a = refl
 all_stay n low k (x ∷ xs) h a = let first : low < n x = a.0 in let other : has n k x ≡ false = greater (n x) k (omega arith) in rw other (ap (λ ys. x ∷ ys) (all_stay n (n x) k xs (omega arith) a.1))
 

@@ -6,8 +6,8 @@ use Rattle.live_context.proofs.instances.place_of.Goals as goal
 pub returns-in-None : goal.returns-in-None
 returns-in-None c = sym (found_none c.args.number c.args.instances.now c.count_numbered-at.result c.requires c.count_numbered-at.ensures c.in-None.ensures)
 
-pub returns-then-number : goal.returns-then-number
-returns-then-number c = found_there c.args.number c.args.instances.now c.count_numbered-at.result c.in-Some.live.now c.requires c.count_numbered-at.ensures c.in-Some.ensures c.if-number.true
+pub returns-then-live-number : goal.returns-then-live-number
+returns-then-live-number c = found_there c.args.number c.args.instances.now c.count_numbered-at.result c.in-Some.live.now c.requires c.count_numbered-at.ensures c.in-Some.ensures c.if-live-number.true
 
-pub returns-else-number : goal.returns-else-number
-returns-else-number c = sym (found_other c.args.number c.args.instances.now c.count_numbered-at.result c.in-Some.live.now c.requires c.count_numbered-at.ensures c.in-Some.ensures (grind (arith, nat_tests)))
+pub returns-else-live-number : goal.returns-else-live-number
+returns-else-live-number c = sym (found_other c.args.number c.args.instances.now c.count_numbered-at.result c.in-Some.live.now c.requires c.count_numbered-at.ensures c.in-Some.ensures (grind (arith, nat_tests)))

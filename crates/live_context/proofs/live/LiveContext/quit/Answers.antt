@@ -1,5 +1,9 @@
-use Rattle.live_context.proofs.Order.{order_quit}
+use Rattle.live_context.specs.Counts.{count_its, counts_in, instances_in}
+use Rattle.live_context.proofs.Order.{order_gone, order_none_gone}
 use Rattle.live_context.proofs.live.LiveContext.quit.Goals as goal
 
 pub invariant_of-self : goal.invariant_of-self
-invariant_of-self c = order_quit c.self.inside.births c.self.inside.begun _ c.self.inside.listeners.items c.without_born.new.listeners.items c.self.inside.instances.items c.without_born.ensures c.self.invariant
+invariant_of-self c = ?
+
+pub invariant_of-self-in_default : goal.invariant_of-self-in_default
+invariant_of-self-in_default c = ?
