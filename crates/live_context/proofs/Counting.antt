@@ -79,6 +79,9 @@ count_room n low high k (l ∷ ls) a w = room_step (is_its k l) l (filter (is_it
 pub count_within : (n : Listener → ℕ) (high k : ℕ) (ls : List Listener) → Ascend n 0 ls → Within n high ls → count_its ls k ≤ high
 count_within n high k ls a w = let few : count_its ls k ≤ high - 0 = count_room n 0 high k ls a w in omega arith
 
+pub few_listeners : (n births next : ℕ) → n ≤ births → next ≡ births + 1 → next < 18446744073709551616 → n < 18446744073709551615
+few_listeners n births next most next_is fits = omega arith
+
 -- ---- one less
 
 count_in_front : (k : ℕ) (l : Listener) (ls : List Listener) (b : Bool) → length (cond b (l ∷ filter (is_its k) ls) (filter (is_its k) ls)) ≡ count_its ls k + cond b 1 0
