@@ -100,13 +100,13 @@ count_taken b low k (m ∷ ls) l a is = go (count_taken b m.birth k ls l a.1) (i
 
     go : (find (is_born b) ls ≡ Some l → count_its ls k ≡ count_its (filter (λ m. not (is_born b m)) ls) k + cond (is_its k l) 1 0) → (c : Bool) → is_born b m ≡ c → cond c (Some m) (find (is_born b) ls) ≡ Some l → count_its (m ∷ ls) k ≡ count_its (cond (not c) (m ∷ filter (λ m. not (is_born b m)) ls) (filter (λ m. not (is_born b m)) ls)) k + cond (is_its k l) 1 0
     go rest true e h =
-      let s : m ≡ l = cc in
-      let born : m.birth ≡ b = equal m.birth b e in
-      let under : b ≤ m.birth = omega arith in
-      let stay : ls ≡ filter (hasnt birth_of b) ls = all_stay birth_of m.birth b ls under a.1 in
-      count_cons k m ls ∙ ap (λ (x : Listener). count_its ls k + cond (is_its k x) 1 0) s ∙ ap (λ xs. count_its xs k + cond (is_its k l) 1 0) stay
+        let s : m ≡ l = cc in
+        let born : m.birth ≡ b = equal m.birth b e in
+        let under : b ≤ m.birth = omega arith in
+        let stay : ls ≡ filter (hasnt birth_of b) ls = all_stay birth_of m.birth b ls under a.1 in
+        count_cons k m ls ∙ ap (λ (x : Listener). count_its ls k + cond (is_its k x) 1 0) s ∙ ap (λ xs. count_its xs k + cond (is_its k l) 1 0) stay
     go rest false e h =
-      count_cons k m ls ∙ swapped (count_its ls k) (count_its (filter (λ m. not (is_born b m)) ls) k) (cond (is_its k l) 1 0) (cond (is_its k m) 1 0) (rest h) ∙ ap (λ n. n + cond (is_its k l) 1 0) (sym (count_cons k m (filter (λ m. not (is_born b m)) ls)))
+        count_cons k m ls ∙ swapped (count_its ls k) (count_its (filter (λ m. not (is_born b m)) ls) k) (cond (is_its k l) 1 0) (cond (is_its k m) 1 0) (rest h) ∙ ap (λ n. n + cond (is_its k l) 1 0) (sym (count_cons k m (filter (λ m. not (is_born b m)) ls)))
 
 pub less_counts : (b low : ℕ) (ls : List Listener) (l : Listener) → Ascend birth_of low ls → find (is_born b) ls ≡ Some l → (k : ℕ) → with_count l.instance (count_its ls l.instance - 1) (count_its ls) k ≡ count_its (filter (λ m. not (is_born b m)) ls) k
 less_counts b low ls l a is k = with_count_is l.instance (count_its ls l.instance - 1) k (count_its (filter (λ m. not (is_born b m)) ls) k) (count_its ls) here there

@@ -20,8 +20,8 @@ module _ (program : Program) (instance site : ℕ) (operands captured : List Val
       go : (o : Option Site) → slice_get program.sites site ≡ o → record c { births = next; listeners = ls; instances = is } ≡ with_some o (λ s d. with_listener instance site captured (begun_in (setting_of program.types s operands d.clock)) d) c
       go None e = absurd (not_past program.sites site within e)
       go (Some found) e =
-        let listeners = ls_is ∙ ap (λ (x : SiteExpression). c.listeners ++ (record { birth = next; instance = instance; site = x.site; captured = captured; expression = x.expression }) ∷ []) (state_is found e) in
-        ap (λ xs. record c { births = next; listeners = xs; instances = is }) listeners
+          let listeners = ls_is ∙ ap (λ (x : SiteExpression). c.listeners ++ (record { birth = next; instance = instance; site = x.site; captured = captured; expression = x.expression }) ∷ []) (state_is found e) in
+          ap (λ xs. record c { births = next; listeners = xs; instances = is }) listeners
           ∙ ap (λ xs. record c { births = next; listeners = c.listeners ++ (record { birth = next; instance = instance; site = site; captured = captured; expression = begun_in (setting_of program.types found operands c.clock) }) ∷ []; instances = xs }) is_is
           ∙ ap (λ n. record c { births = n; listeners = c.listeners ++ (record { birth = n; instance = instance; site = site; captured = captured; expression = begun_in (setting_of program.types found operands c.clock) }) ∷ [] }) next_is
 

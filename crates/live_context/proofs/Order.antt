@@ -127,8 +127,8 @@ module _ (births begun : ℕ) (ls : List Listener) (is : List Instance) (counts 
       go : (found : Option Listener) → find (is_born birth) ls ≡ found → Some n ≡ option_map owner_of found → InOrder births begun ms new new_counts
       go None e h = absurd (cc)
       go (Some l) e h =
-        let same : n ≡ l.instance = cc in
-        order_quit (λ m. not (is_born birth m)) ms new new_counts ms_is new_is (counts_as (with_count l.instance (count_its ls l.instance - 1) (count_its ls)) (count_its (filter (λ m. not (is_born birth m)) ls)) new new_counts (less_counts birth 0 ls l o.births_ascend e) (subst (λ k. AreCounts (with_count k (count_its ls k - 1) (count_its ls)) new new_counts) same counted)) o
+          let same : n ≡ l.instance = cc in
+          order_quit (λ m. not (is_born birth m)) ms new new_counts ms_is new_is (counts_as (with_count l.instance (count_its ls l.instance - 1) (count_its ls)) (count_its (filter (λ m. not (is_born birth m)) ls)) new new_counts (less_counts birth 0 ls l o.births_ascend e) (subst (λ k. AreCounts (with_count k (count_its ls k - 1) (count_its ls)) new new_counts) same counted)) o
 
   pub order_none_gone : (birth : ℕ) (ms : List Listener) → None ≡ option_map owner_of (find (is_born birth) ls) → ms ≡ filter (λ l. not (is_born birth l)) ls → InOrder births begun ls is counts → InOrder births begun ms is counts
   order_none_gone birth ms none ms_is o = subst (λ xs. InOrder births begun xs is counts) (missing_below birth_of 0 birth ls o.births_ascend (go (find (is_born birth) ls) none) ∙ sym ms_is) o

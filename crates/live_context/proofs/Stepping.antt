@@ -76,4 +76,4 @@ if_ok_more P Q (Err e) f h = h
 pub steps_shown : {E : Type 0} (program : Program) (s : Stimulus) (birth : ℕ) (seen c : Context) (ms : List Listener) (r : Result (Option StepOut) E) → seen ≡ c → ContextFits program c → IfOk r (λ told. StepsAmong program s seen.clock birth seen.listeners told ms) → IfOk r (λ told. StepsBorn program s birth c told (record seen { listeners = ms }))
 steps_shown program s birth seen c ms r same fits =
     subst (λ (d : Context). IfOk r (λ told. StepsAmong program s d.clock birth d.listeners told ms) → IfOk r (λ told. StepsBorn program s birth c told (record d { listeners = ms }))) (sym same)
-      (if_ok_more (λ told. StepsAmong program s c.clock birth c.listeners told ms) (λ told. StepsBorn program s birth c told (record c { listeners = ms })) r (λ told. steps_born program s birth c ms told fits))
+    (if_ok_more (λ told. StepsAmong program s c.clock birth c.listeners told ms) (λ told. StepsBorn program s birth c told (record c { listeners = ms })) r (λ told. steps_born program s birth c ms told fits))

@@ -22,7 +22,7 @@ invariant_of-self-2 c =
     let most = count_within birth_of c.self.inside.births c.args.instance ls c.self.invariant.births_ascend c.self.invariant.births_within in
     let few = few_listeners (count_its ls c.args.instance) c.self.inside.births c.in-Some.birth most next_is fits in
     order_born c.self.inside.births c.self.inside.begun c.self.inside.listeners.items (instances_in c.self.inside.instances.items) (counts_in c.self.inside.instances.items) c.in-Some.birth c.push.new.self.items (instances_in c.one_more.new.instances.items) (counts_in c.one_more.new.instances.items) _ next_is refl begun
-      (c.in_ok-push.ensures.items ∙ ap (λ (x : Listener). ls ++ x ∷ []) c.born_with.ensures) c.one_more.ensures.same (c.one_more.ensures.counts (count_its ls) c.self.invariant.counted few) c.self.invariant
+    (c.in_ok-push.ensures.items ∙ ap (λ (x : Listener). ls ++ x ∷ []) c.born_with.ensures) c.one_more.ensures.same (c.one_more.ensures.counts (count_its ls) c.self.invariant.counted few) c.self.invariant
 
 pub returns : goal.returns
 returns c =
@@ -32,4 +32,4 @@ returns c =
     let fits : SFits w128 c.self.inside.clock = search rules in
     let begins = subst (λ (t : ℤ). (found : Site) → slice_get program.sites c.args.site ≡ Some found → c.in_ok-state.state ≡ record { site = c.args.site; expression = begun_in (setting_of program.types found c.args.operands t) }) (to_z-of_z w128 c.self.inside.clock fits) c.in_ok-state.ensures in
     born_shown program c.args.instance c.args.site c.args.operands c.args.captured c.in-Some.birth c.push.new.self.items (instances_in c.one_more.new.instances.items) c.in_ok-state.state _ c.args.self.now c.self.view_is c.requires.there next_is begins
-      (c.in_ok-push.ensures.items ∙ ap (λ (x : Listener). ls ++ x ∷ []) c.born_with.ensures) c.one_more.ensures.same
+    (c.in_ok-push.ensures.items ∙ ap (λ (x : Listener). ls ++ x ∷ []) c.born_with.ensures) c.one_more.ensures.same
