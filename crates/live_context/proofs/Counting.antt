@@ -3,9 +3,9 @@ use Rattle.std.proofs.Common.{◌+◌, ◌-◌, ◌<◌, ◌≤◌, ◌∷◌, �
 use Rattle.std.specs.List.{list_any}
 use Rattle.std.proofs.lemmas.List.{length-append}
 use Rattle.std.proofs.lemmas.List.Elements.{filter-append}
-use Rattle.live_context.proofs.Common.{ℕ, zero, suc, Bool, true, false, cond, not, List, [], map, length, filter, find, Option, Some, None, refl, sym, ap, ◌∙◌, subst, eqb, arith, nat_tests, Value, Instance, Listener, is_born, is_its, put_globals, is_instance, AreCounts, count_its, with_count, Ascend, Within, birth_of, owner_of}
+use Rattle.live_context.proofs.Common.{ℕ, suc, Bool, true, false, cond, not, List, [], map, length, filter, find, Some, refl, sym, ap, ◌∙◌, subst, eqb, arith, nat_tests, Value, Instance, Listener, is_born, is_its, put_globals, is_instance, AreCounts, count_its, with_count, Ascend, Within, birth_of, owner_of}
 use Rattle.live_context.proofs.Lists.{map_same}
-use Rattle.live_context.proofs.Searching.{has, hasnt, all_stay, missing_below}
+use Rattle.live_context.proofs.Searching.{hasnt, all_stay}
 
 -- ---- numbers
 

@@ -1,5 +1,5 @@
 -- A listener is born.
-use Rattle.std.proofs.Common.{◌+◌, ◌<◌, ◌≤◌, ◌∷◌, ◌++◌, ◌≡◌, ◌⊎◌, ⊎_elim}
+use Rattle.std.proofs.Common.{◌+◌, ◌<◌, ◌≤◌, ◌∷◌, ◌++◌, ◌≡◌, ⊎_elim}
 use Rattle.std.proofs.lemmas.Option.{slice_get_cases}
 use Rattle.typed_program.specs.declared.program.Program.{Program}
 use Rattle.typed_program.specs.declared.program.Site.{Site}
@@ -7,7 +7,7 @@ use Rattle.term_meaning.specs.UnderWay.{begun_in, setting_of}
 use Rattle.event_terms.specs.States.{SiteExpression}
 use Rattle.context_meaning.specs.Contexts.{Context, is_busy, with_listener, with_some, without_listeners}
 use Rattle.context_meaning.specs.Ends.{listening}
-use Rattle.live_context.proofs.Common.{ℕ, List, [], length, Option, Some, None, false, slice_get, refl, sym, ap, ◌∙◌, subst, arith, Value, Instance, Listener}
+use Rattle.live_context.proofs.Common.{ℕ, List, [], length, Option, Some, None, false, slice_get, refl, ap, ◌∙◌, arith, Value, Instance, Listener}
 use Rattle.live_context.proofs.Counting.{idle_stay}
 
 not_past : {A : Type 0} (xs : List A) (at : ℕ) → at < length xs → slice_get xs at ≡ None → ⊥

@@ -1,9 +1,9 @@
 -- Lists whose items are seen by one of their parts.
-use Rattle.std.proofs.Common.{◌<◌, ◌≤◌, ◌∷◌, ◌++◌, ◌≡◌}
+use Rattle.std.proofs.Common.{◌<◌, ◌≤◌, ◌∷◌, ◌≡◌}
 use Rattle.std.specs.Prelude.{nat_lt}
 use Rattle.std.specs.List.{All, remove}
 use Rattle.std.proofs.lemmas.List.Elements.{All-head, All-tail}
-use Rattle.live_context.proofs.Common.{ℕ, zero, suc, Bool, true, false, cond, List, [], map, length, filter, find, Option, Some, None, slice_get, slice_set, refl, sym, ap, ◌∙◌, subst, arith, Ascend, Within, below}
+use Rattle.live_context.proofs.Common.{ℕ, zero, suc, Bool, true, false, cond, List, [], map, find, Option, Some, slice_get, slice_set, refl, sym, ap, ◌∙◌, subst, arith, Ascend, Within, below}
 
 pub map_same : {A B : Type 0} (f g : A → B) → ((x : A) → f x ≡ g x) → (xs : List A) → map f xs ≡ map g xs
 map_same f g same [] = refl

@@ -4,7 +4,7 @@ use Rattle.std.specs.Prelude.{get_or, nat_lt}
 use Rattle.std.specs.List.{remove}
 use Rattle.std.proofs.lemmas.Option.{get_or_from_slice_get, slice_get_within, slice_get-map}
 use Rattle.std.specs.Option.{option_map}
-use Rattle.live_context.proofs.Common.{ℕ, zero, suc, Bool, true, false, cond, List, [], length, Option, Some, None, slice_get, slice_set, refl, sym, ap, ◌∙◌, eqb, arith, nat_tests, find, map, subst, Value, Instance, Listener, LiveInstance, is_born, is_instance, put_expression, put_globals, Ascend, below, number_of, birth_of, FoundAt, instances_in, counts_in, with_count, AreCounts, owner_of, filter, not}
+use Rattle.live_context.proofs.Common.{ℕ, suc, Bool, true, false, cond, List, [], Option, Some, None, slice_get, slice_set, refl, sym, ap, ◌∙◌, eqb, arith, nat_tests, find, map, Value, Instance, Listener, LiveInstance, is_born, is_instance, put_expression, put_globals, Ascend, below, number_of, birth_of, FoundAt, instances_in, counts_in, with_count, AreCounts, owner_of, filter, not}
 use Rattle.term_meaning.specs.UnderWay.{UnderWay}
 use Rattle.live_context.specs.Places.{BornAt}
 use Rattle.live_context.proofs.Searching.{before, found_below, has, only, removed_below}

@@ -1,9 +1,9 @@
 -- What is found by halves among ascending numbers.
-use Rattle.std.proofs.Common.{◌<◌, ◌≤◌, ◌∷◌, ◌++◌, ◌≡◌}
+use Rattle.std.proofs.Common.{◌<◌, ◌≤◌, ◌∷◌, ◌≡◌}
 use Rattle.std.specs.Prelude.{slice_index_or, nat_lt}
 use Rattle.std.specs.List.{remove}
 use Rattle.std.specs.List.Sorted.{IsPartitionedBy, IsPartitionPoint}
-use Rattle.live_context.proofs.Common.{ℕ, zero, suc, Bool, true, false, cond, not, List, [], length, Option, Some, None, slice_get, slice_set, take, drop, filter, find, eqb, ltb, refl, sym, ap, ◌∙◌, arith, nat_tests, Value, Instance, is_instance, put_globals, FoundAt, Ascend, below, number_of}
+use Rattle.live_context.proofs.Common.{ℕ, zero, suc, Bool, true, false, cond, not, List, [], length, Option, Some, None, slice_get, filter, find, eqb, refl, sym, ap, ◌∙◌, arith, nat_tests, Ascend, below}
 
 abbrev pub before : {A : Type 0} → (A → ℕ) → ℕ → A → Bool
 before n k x = nat_lt (n x) k

@@ -1,11 +1,10 @@
 -- A listener is stepped where it stands.
-use Rattle.std.proofs.Common.{◌<◌, ◌≤◌, ◌∷◌, ◌≡◌, ℤ, Result, Ok, Err}
+use Rattle.std.proofs.Common.{◌∷◌, ◌≡◌, ℤ, Result, Ok, Err}
 use Rattle.std.specs.Prelude.{IfOk}
 use Rattle.std.specs.List.{All}
 use Rattle.std.proofs.lemmas.List.Elements.{All-cons, All-head, All-nil, All-tail}
 use Rattle.std.proofs.lemmas.Option.{slice_get_within}
 use Rattle.typed_program.specs.declared.program.Program.{Program}
-use Rattle.typed_program.specs.declared.program.Site.{Site}
 use Rattle.term_meaning.specs.declared.stimulus.Stimulus.{Stimulus}
 use Rattle.term_meaning.specs.UnderWay.{left_of}
 use Rattle.event_terms.specs.declared.state.StepOut.{StepOut}
@@ -13,7 +12,7 @@ use Rattle.context_meaning.specs.Contexts.{Context}
 use Rattle.context_meaning.specs.Fits.{ContextFits, ListenerFits}
 use Rattle.live_context.specs.Places.{BornAt}
 use Rattle.live_context.specs.Steps.{AreSame, HasSite, IsSame, StepsAmong, StepsBorn, StepsFound, StepsLive, StepsOne, StepsPlace, given_at}
-use Rattle.live_context.proofs.Common.{ℕ, List, [], map, length, Option, Some, None, slice_get, slice_set, find, refl, sym, ap, ◌∙◌, subst, Instance, Listener, is_born, birth_of, owner_of}
+use Rattle.live_context.proofs.Common.{ℕ, List, [], map, Option, Some, None, slice_get, slice_set, sym, ap, ◌∙◌, subst, Instance, Listener, is_born, birth_of, owner_of}
 use Rattle.live_context.proofs.Lists.{found_has, map_put_same}
 
 -- ---- what fits

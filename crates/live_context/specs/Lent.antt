@@ -1,5 +1,5 @@
 -- What a context that runs lends, and what it keeps in order.
-use Rattle.std.specs.Prelude.{ℕ, List, [], ◌∷◌, Option, Some, None}
+use Rattle.std.specs.Prelude.{List, [], ◌∷◌, Option, Some, None}
 use Rattle.context_meaning.specs.declared.context.Instance.{Instance}
 use Rattle.context_meaning.specs.declared.context.Waiting.{Waiting}
 use Rattle.live_context.specs.declared.lent.Lent.{Lent}

@@ -1,4 +1,4 @@
-use Rattle.std.proofs.Common.{ℕ, ◌+◌, ◌-◌, ◌≡◌, ◌∙◌, None, subst}
+use Rattle.std.proofs.Common.{ℕ, ◌+◌, ◌≡◌, ◌∙◌, None, subst}
 use Rattle.std.specs.List.{find}
 use Rattle.context_meaning.specs.Contexts.{is_instance}
 use Rattle.live_context.specs.Counts.{AreCounts, counts_in, instances_in}

@@ -1,5 +1,4 @@
 use Rattle.std.proofs.Common.{ℤ, subst}
-use Rattle.std.proofs.Common.{SFits}
 use Rattle.std.specs.Int.{w128}
 use Rattle.std.proofs.lemmas.Int.{to_z-of_z}
 use Rattle.live_context.specs.Places.{BornAt}

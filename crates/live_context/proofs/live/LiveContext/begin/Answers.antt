@@ -1,7 +1,7 @@
 use Rattle.std.proofs.Common.{ap, refl, rules, ◌∙◌}
 use Rattle.std.proofs.lemmas.List.{map-append}
 use Rattle.live_context.specs.declared.instances.LiveInstance.{LiveInstance}
-use Rattle.live_context.specs.Counts.{count_its, counts_in, instances_in}
+use Rattle.live_context.specs.Counts.{counts_in, instances_in}
 use Rattle.live_context.proofs.Order.{order_begun}
 use Rattle.live_context.proofs.live.LiveContext.begin.Goals as goal
 

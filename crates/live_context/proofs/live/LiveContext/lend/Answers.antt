@@ -1,5 +1,4 @@
-use Rattle.std.proofs.Common.{[]}
-use Rattle.live_context.specs.Counts.{count_its, counts_in, instances_in}
+use Rattle.live_context.specs.Counts.{counts_in, instances_in}
 use Rattle.live_context.proofs.Order.{order_put}
 use Rattle.live_context.proofs.live.LiveContext.lend.Goals as goal
 

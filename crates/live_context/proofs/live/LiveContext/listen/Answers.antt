@@ -1,4 +1,4 @@
-use Rattle.std.proofs.Common.{ℕ, ℤ, ap, refl, rules, subst, sym, Some, slice_get, ◌+◌, ◌<◌, ◌≤◌, ◌≡◌, ◌∷◌, ◌++◌, ◌∙◌, [], ◌^◌}
+use Rattle.std.proofs.Common.{ℤ, ap, refl, rules, subst, sym, Some, slice_get, ◌+◌, ◌<◌, ◌≤◌, ◌≡◌, ◌∷◌, ◌++◌, ◌∙◌, []}
 use Rattle.std.proofs.Common.{SFits}
 use Rattle.std.specs.Int.{w128}
 use Rattle.std.proofs.lemmas.Int.{to_z-of_z}

@@ -1,4 +1,4 @@
-use Rattle.live_context.specs.Counts.{count_its, counts_in, instances_in}
+use Rattle.live_context.specs.Counts.{counts_in, instances_in}
 use Rattle.live_context.proofs.Order.{order_put}
 use Rattle.live_context.proofs.live.LiveContext.put_back.Goals as goal
 

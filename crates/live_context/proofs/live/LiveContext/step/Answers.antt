@@ -3,7 +3,7 @@ use Rattle.std.specs.Prelude.{IfOk}
 use Rattle.std.proofs.Common.{SFits}
 use Rattle.std.specs.Int.{w128}
 use Rattle.std.proofs.lemmas.Int.{to_z-of_z}
-use Rattle.live_context.specs.Counts.{count_its, counts_in, instances_in}
+use Rattle.live_context.specs.Counts.{counts_in, instances_in}
 use Rattle.live_context.specs.Steps.{StepsAmong}
 use Rattle.live_context.proofs.Order.{order_same}
 use Rattle.live_context.proofs.Stepping.{steps_shown}
