@@ -2,13 +2,13 @@ ghost use Rattle.std.specs.Prelude.{◌≡◌, ◌+◌, ◌<◌, ◌≤◌, ◌+
 ghost use Rattle.std.specs.Option.{option_copied};
 ghost use Rattle.actor_theory.specs.Joined.{slots_only};
 ghost use Rattle.actor_theory.specs.Machine.{delivered, empty_queues, queue_at};
-ghost use Rattle.naive_meaning.specs.Actors.{item_sends, loads_below};
+ghost use Rattle.naive_meaning.specs.Actors.{event_sends, item_sends, loads_below, times_below};
 ghost use Rattle.typed_program.specs.declared.program.Program.{Program as TheProgram};
 ghost use Rattle.entry_queues.specs.Queued.{Gathers, first_of, rest_of};
-ghost use Rattle.source_actor.specs.Steps.{fresh_part, has_first, item_entry, part_after_entry, part_after_first, record_of};
+ghost use Rattle.source_actor.specs.Steps.{event_entry, fresh_part, has_first, is_named, time_entry, part_after_entry, part_after_first, record_of};
 
 use entry_queues::{Queued, empty_queues, first_at, gather, pop_at};
-use epl_values::{Memory, copy};
+use epl_values::{Memory, Text, Value, copy};
 use queues::Queue;
 use record_book::{
     Cargo, Entries, Entry, Item, Items, ReaderRecord, ReaderStep, ReaderSteps, Settings,
@@ -41,25 +41,75 @@ impl Model for Reader {
     ghost view = { λ r. record { contexts = r.contexts; cell = record { state = tt; number = r.number; steps = r.steps; rest = r.rest }; outboxes = r.outboxes.items } };
 }
 
-/// Puts an entry behind those for the main context.
-fn send_to_main(outboxes: &mut Queued, entry: Entry) -> Result<(), Memory>
-    requires { 0 < length outboxes.old.items }
-    ensures { OnOk result (outboxes.new.items ≡ slice_set outboxes.old.items 0 (queue_at outboxes.old.items 0 ++ entry ∷ [])) }
+/// Puts an entry behind those for a context.
+fn send_to(outboxes: &mut Queued, slot: u8, entry: Entry) -> Result<(), Memory>
+    requires { slot < length outboxes.old.items }
+    ensures { OnOk result (outboxes.new.items ≡ slice_set outboxes.old.items slot (queue_at outboxes.old.items slot ++ entry ∷ [])) }
 {
-    outboxes[0].push(entry)?;
+    outboxes[usize::from(slot)].push(entry)?;
     Ok(())
 }
 
-/// The entry that an item sends under a number, in the name of the reader of so many contexts.
-fn sent_by(alloc: Global, contexts: u8, number: u64, item: &Item) -> Result<Entry, Memory>
-    ensures { IfOk result (λ e. e ≡ item_entry contexts number item.now) }
+/// The entry of an event, under a number, in the name of the reader of so many contexts.
+fn event_entry(alloc: Global, contexts: u8, number: u64, event: &Value) -> Result<Entry, Memory>
+    ensures { IfOk result (λ e. e ≡ event_entry contexts number event.now) }
 {
-    let Item::Event(_, event) = item;
     Ok(Entry {
         sender: contexts,
         stamp: number,
         cargo: Cargo::Event(copy(alloc, event)?),
     })
+}
+
+/// Whether a channel has a name.
+fn is_named(channel: &str) -> bool
+    ensures { result ≡ is_named channel.now }
+{
+    matches!(channel.as_bytes(), [_, ..])
+}
+
+/// Sends an event of a channel, under a number, in the name of the reader of so many contexts.
+fn send_event(
+    alloc: Global,
+    contexts: u8,
+    number: u64,
+    channel: &Text,
+    event: &Value,
+    outboxes: &mut Queued,
+) -> Result<(), Memory>
+    requires some { 0 < contexts }
+    requires count { length outboxes.old.items ≡ contexts + 1 }
+    ensures { OnOk result (outboxes.new.items ≡ delivered contexts number (slots_only contexts (event_sends channel.now event.now)) outboxes.old.items) }
+{
+    if is_named(channel.as_str()) {
+        return Ok(());
+    }
+    let entry = event_entry(alloc, contexts, number, event)?;
+    send_to(outboxes, 0, entry)?;
+    Ok(())
+}
+
+/// The entry of a time, under a number, in the name of the reader of so many contexts.
+fn time_entry(contexts: u8, number: u64, time: &i128) -> Entry
+    ensures { result ≡ time_entry contexts number time.now }
+{
+    Entry {
+        sender: contexts,
+        stamp: number,
+        cargo: Cargo::Time(*time),
+    }
+}
+
+/// Sends a time to each context, under a number, in the name of the reader of so many contexts.
+fn send_time(contexts: u8, number: u64, time: &i128, outboxes: &mut Queued) -> Result<(), Memory>
+    requires count { length outboxes.old.items ≡ contexts + 1 }
+    ensures { OnOk result (outboxes.new.items ≡ delivered contexts number (slots_only contexts (times_below contexts time.now)) outboxes.old.items) }
+{
+    'slots: for slot in 0..contexts {
+        let entry = time_entry(contexts, number, time);
+        send_to(outboxes, slot, entry)?;
+    }
+    Ok(())
 }
 
 /// Sends what an item says, under a number, in the name of the reader of so many contexts.
@@ -72,11 +122,14 @@ fn send_item(
 ) -> Result<(), Memory>
     requires some { 0 < contexts }
     requires count { length outboxes.old.items ≡ contexts + 1 }
-    ensures { OnOk result (outboxes.new.items ≡ delivered contexts number (slots_only contexts (item_sends item.now)) outboxes.old.items) }
+    ensures { OnOk result (outboxes.new.items ≡ delivered contexts number (slots_only contexts (item_sends contexts item.now)) outboxes.old.items) }
 {
-    let entry = sent_by(alloc, contexts, number, item)?;
-    send_to_main(outboxes, entry)?;
-    Ok(())
+    match item {
+        Item::Event(channel, event) => {
+            send_event(alloc, contexts, number, channel, event, outboxes)
+        }
+        Item::Time(time) => send_time(contexts, number, time, outboxes),
+    }
 }
 
 /// Outboxes with a load for each of so many monitors, in order.
@@ -91,7 +144,7 @@ fn loads(alloc: Global, contexts: u8, monitors: u16) -> Result<Queued, Memory>
             stamp: 0,
             cargo: Cargo::Load(monitor),
         };
-        send_to_main(&mut outboxes, entry)?;
+        send_to(&mut outboxes, 0, entry)?;
     }
     Ok(outboxes)
 }

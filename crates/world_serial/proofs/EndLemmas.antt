@@ -127,10 +127,10 @@ ends-scheduled p items settings booted last r boot finishes is =
     let cells = finishes.standing.stand.cells_count in
     let queues = finishes.standing.stand.queues_count in
     let enough : length last.cells.items ≤ length last.queued.items = omega arith in
-    let scheduled = machine-scheduled contexts (slots_of p settings) (reader_of p) records.shown [] (cells_in booted.cells.items) booted.reader.cell booted.queued.items (moment_of contexts booted) (cells_in last.cells.items) last.reader.cell last.queued.items boot.boot refl finishes.finished
+    let scheduled = machine-scheduled contexts (slots_of p settings) (reader_of p settings.contexts) records.shown [] (cells_in booted.cells.items) booted.reader.cell booted.queued.items (moment_of contexts booted) (cells_in last.cells.items) last.reader.cell last.queued.items boot.boot refl finishes.finished
     finishes.standing.stand in
-    let P : List Item → Type 0 = λ its. kept.IsScheduled contexts (slots_of p settings) (reader_of p) records.shown its [] (kept_of contexts (slots_of p settings) records.shown (cells_in last.cells.items) last.reader.cell last.queued.items) in
-    let Q : kept.Kept (List Line) Cargo Item → Type 0 = λ k. kept.IsScheduled contexts (slots_of p settings) (reader_of p) records.shown items [] k in
+    let P : List Item → Type 0 = λ its. kept.IsScheduled contexts (slots_of p settings) (reader_of p settings.contexts) records.shown its [] (kept_of contexts (slots_of p settings) records.shown (cells_in last.cells.items) last.reader.cell last.queued.items) in
+    let Q : kept.Kept (List Line) Cargo Item → Type 0 = λ k. kept.IsScheduled contexts (slots_of p settings) (reader_of p settings.contexts) records.shown items [] k in
     record {
       same_settings = ap (λ (x : Record). x.settings) is;
       scheduled = subst Q (sym (ap records.kept_of is ∙ kept-world p settings last enough)) (subst P boot.items_are scheduled);
@@ -140,7 +140,7 @@ ends-scheduled p items settings booted last r boot finishes is =
 pub scheduled-faithful : (p : Program) (items : List Item) (settings : Settings) (r : Record) → records.IsScheduled p items settings [] r → records.IsFaithful p items settings r
 scheduled-faithful p items settings r h = record {
   same_settings = h.same_settings;
-  faithful = scheduled-kept settings.contexts (slots_of p settings) (reader_of p) records.shown items [] (records.kept_of r) h.scheduled;
+  faithful = scheduled-kept settings.contexts (slots_of p settings) (reader_of p settings.contexts) records.shown items [] (records.kept_of r) h.scheduled;
 }
 
 -- how many cells there are

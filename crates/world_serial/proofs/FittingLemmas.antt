@@ -69,12 +69,12 @@ entry-fits p k cells rest rest' queued queued' h lt taken same = record {
 }
 
 -- the reader has taken its first item
-pub item-fits : (p : Program) (s n contexts : ℕ) (cells : List CellPart) (i : Item) (rest rest' : List Item) (queued queued' : List (List (Entry Cargo))) → Fitting p cells (i ∷ rest) queued → queued' ≡ delivered s n (slots_only contexts (item_sends i)) queued → rest' ≡ rest
+pub item-fits : (p : Program) (s n contexts : ℕ) (cells : List CellPart) (i : Item) (rest rest' : List Item) (queued queued' : List (List (Entry Cargo))) → Fitting p cells (i ∷ rest) queued → queued' ≡ delivered s n (slots_only contexts (item_sends contexts i)) queued → rest' ≡ rest
     → Fitting p cells rest' queued'
 item-fits p s n contexts cells i rest rest' queued queued' h sent same = record {
   cells_fit = h.cells_fit;
   items_fit = subst (ItemsFit p) (sym same) (All-tail (ItemFits p) i rest h.items_fit);
-  queued_fit = delivered-fits p s n (slots_only contexts (item_sends i)) queued queued' sent (item-sends_fit p contexts i (All-head (ItemFits p) i rest h.items_fit)) h.queued_fit;
+  queued_fit = delivered-fits p s n (slots_only contexts (item_sends contexts i)) queued queued' sent (item-sends_fit p contexts i (All-head (ItemFits p) i rest h.items_fit)) h.queued_fit;
 }
 
 -- ---- the start
@@ -88,7 +88,7 @@ pub cells-more : (p : Program) (cells cells' : List CellPart) (c : CellPart) →
 cells-more p cells cells' c pushed fit rests = subst (All (Rests p)) (sym pushed) (All-push (Rests p) cells c fit rests)
 
 -- the parts with the loads queued
-pub begun-fits : (p : Program) (contexts : ℕ) (cells : List CellPart) (rest : List Item) (queued : List (List (Entry Cargo))) → All (Rests p) cells → rest ≡ [] → queued ≡ loaded_queues contexts (reader_of p) → Fitting p cells rest queued
+pub begun-fits : (p : Program) (contexts : ℕ) (cells : List CellPart) (rest : List Item) (queued : List (List (Entry Cargo))) → All (Rests p) cells → rest ≡ [] → queued ≡ loaded_queues contexts (reader_of p contexts) → Fitting p cells rest queued
 begun-fits p contexts cells rest queued fit none loaded =
     let le : length p.monitors ≤ length p.monitors = omega arith in
     let sent : All (SendFits p) (slots_only contexts (loads_below (length p.monitors))) = All-filter (λ (x : Sent Cargo). nat_lt x.target contexts) (SendFits p) (loads_below (length p.monitors)) (loads-fit p (length p.monitors) le) in

@@ -24,7 +24,7 @@ part-same a b contexts cell outboxes = λ i. record { contexts = contexts i; cel
 -- there are as many outboxes as before
 pub first-count : (p : Program) (r r' : ReaderPart) (queued : List (List (Entry Cargo))) (items : List Item) → r' ≡ part_after_first p r items → r.outboxes ≡ empty_queues (length queued) → length r'.outboxes ≡ length queued
 first-count p r r' queued [] is empty = ap (λ (x : ReaderPart). length x.outboxes) is ∙ ap length empty ∙ length-empty (length queued)
-first-count p r r' queued (i ∷ rest) is empty = sent-count r.contexts (1 + r.cell.number) (slots_only r.contexts (item_sends i)) r.outboxes r'.outboxes queued (ap (λ (x : ReaderPart). x.outboxes) is) empty
+first-count p r r' queued (i ∷ rest) is empty = sent-count r.contexts (1 + r.cell.number) (slots_only r.contexts (item_sends r.contexts i)) r.outboxes r'.outboxes queued (ap (λ (x : ReaderPart). x.outboxes) is) empty
 
 pub item-takes : (p : Program) (r r' r'' : ReaderPart) (queued queued' : List (List (Entry Cargo))) (items : List Item) → r' ≡ part_after_first p r items → r.outboxes ≡ empty_queues (length queued) → Gathers r'.outboxes queued r''.outboxes queued'
     → r''.cell ≡ r'.cell → r''.contexts ≡ r'.contexts → TakesFirst p r queued items r'' queued'
@@ -34,7 +34,7 @@ item-takes p r r' r'' queued queued' [] is empty h cell contexts = (
 )
 item-takes p r r' r'' queued queued' (i ∷ rest) is empty h cell contexts = (
   part-same r'' _ (contexts ∙ ap (λ (x : ReaderPart). x.contexts) is) (cell ∙ ap (λ (x : ReaderPart). x.cell) is) (emptied-boxes (length queued) r'.outboxes queued r''.outboxes queued' h (first-count p r r' queued (i ∷ rest) is empty) ∙ sym empty),
-  handed-over r.contexts (1 + r.cell.number) (length queued) (slots_only r.contexts (item_sends i)) r'.outboxes queued r''.outboxes queued' h (ap (λ (x : ReaderPart). x.outboxes) is ∙ ap (delivered r.contexts (1 + r.cell.number) (slots_only r.contexts (item_sends i))) empty) refl,
+  handed-over r.contexts (1 + r.cell.number) (length queued) (slots_only r.contexts (item_sends r.contexts i)) r'.outboxes queued r''.outboxes queued' h (ap (λ (x : ReaderPart). x.outboxes) is ∙ ap (delivered r.contexts (1 + r.cell.number) (slots_only r.contexts (item_sends r.contexts i))) empty) refl,
 )
 
 -- what follows where there is an answer
@@ -49,12 +49,12 @@ module _ (p : Program) (settings : Settings) (cells : List CellPart) (reader : R
       → PartsTurned p settings takes settings.contexts cells reader queued cells reader' queued'' found
   item-turned takes found [] reader' queued'' may rest is did =
       let P : Bool → Type 0 = λ b. PartsTurned p settings takes settings.contexts cells reader queued cells reader' queued'' b in
-      subst P (sym is) (turn-done settings.contexts (slots_of p settings) (reader_of p) takes (cells_in cells) reader.cell reader'.cell queued queued' queued'' h.stand first taken may rest (ap (λ (x : ReaderPart). x.cell) did.0) did.1)
+      subst P (sym is) (turn-done settings.contexts (slots_of p settings) (reader_of p settings.contexts) takes (cells_in cells) reader.cell reader'.cell queued queued' queued'' h.stand first taken may rest (ap (λ (x : ReaderPart). x.cell) did.0) did.1)
   item-turned takes found (i ∷ items) reader' queued'' may rest is did =
       let P : Bool → Type 0 = λ b. PartsTurned p settings takes settings.contexts cells reader queued cells reader' queued'' b in
-      let sent = did.1 ∙ ap (λ s. delivered s (1 + reader.cell.number) (slots_only s (item_sends i)) queued') h.contexts in
+      let sent = did.1 ∙ ap (λ s. delivered s (1 + reader.cell.number) (slots_only s (item_sends s i)) queued') h.contexts in
       subst P (sym is)
-      (turn-item settings.contexts (slots_of p settings) (reader_of p) takes (cells_in cells) reader.cell reader'.cell queued queued' queued'' i items h.stand first taken may rest (ap (λ (x : ReaderPart). x.cell) did.0) sent)
+      (turn-item settings.contexts (slots_of p settings) (reader_of p settings.contexts) takes (cells_in cells) reader.cell reader'.cell queued queued' queued'' i items h.stand first taken may rest (ap (λ (x : ReaderPart). x.cell) did.0) sent)
 
   -- the reader among so many contexts, with its outboxes
   first-same : (items : List Item) (reader' : ReaderPart) (queued'' : List (List (Entry Cargo))) → TakesFirst p reader queued' items reader' queued'' → (reader'.contexts ≡ reader.contexts) × (reader'.outboxes ≡ reader.outboxes)
@@ -77,7 +77,7 @@ module _ (p : Program) (settings : Settings) (cells : List CellPart) (reader : R
       subst (Fitting p cells reader'.cell.rest) (sym same) (subst (λ its. Fitting p cells its queued) (sym none) fit)
   item-turn_fits (i ∷ items) reader' queued'' fit did rest =
       let stays = taken-none queued queued' settings.contexts first taken in
-      let sent = did.1 ∙ ap (delivered reader.contexts (1 + reader.cell.number) (slots_only reader.contexts (item_sends i))) stays in
+      let sent = did.1 ∙ ap (delivered reader.contexts (1 + reader.cell.number) (slots_only reader.contexts (item_sends reader.contexts i))) stays in
       item-fits p reader.contexts (1 + reader.cell.number) reader.contexts cells i items reader'.cell.rest queued queued'' fit sent (ap (λ (x : ReaderPart). x.cell.rest) did.0)
 
 -- a program of nothing

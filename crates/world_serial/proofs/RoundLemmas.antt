@@ -14,24 +14,24 @@ use Rattle.actor_theory.proofs.Looping.{machine-rounding_more}
 use Rattle.world_serial.specs.Serial.{weight, cost, cells_in, moment_of, IsStanding, TurnsOn, RoundsOn, FinishesOn}
 
 -- one more turn, where what waits is a measure
-pub turn-more : (p : Program) (settings : Settings) → IsMeasure (actors_of p settings) (IsJoinedLog settings.contexts) weight cost → (takes : Bool) (began : Moment (Cargo ⊎ Item)) (now then : World) (d : ℕ) (handled more both : Bool) → Rounding (actors_of p settings) weight cost takes began (moment_of settings.contexts now) d handled → d ≤ settings.contexts
-    → TurnsOn p settings takes d now then more → both ≡ (handled || more) → Rounding (actors_of p settings) weight cost takes began (moment_of settings.contexts then) (d + 1) both
+pub turn-more : (p : Program) (settings : Settings) → IsMeasure (actors_of p settings) (IsJoinedLog settings.contexts) weight (cost settings.contexts) → (takes : Bool) (began : Moment (Cargo ⊎ Item)) (now then : World) (d : ℕ) (handled more both : Bool) → Rounding (actors_of p settings) weight (cost settings.contexts) takes began (moment_of settings.contexts now) d handled → d ≤ settings.contexts
+    → TurnsOn p settings takes d now then more → both ≡ (handled || more) → Rounding (actors_of p settings) weight (cost settings.contexts) takes began (moment_of settings.contexts then) (d + 1) both
 turn-more p settings measure takes began now then d handled more both h le turned is =
-    let next = machine-rounding_more settings.contexts (slots_of p settings) (reader_of p) weight cost measure takes began (cells_in now.cells.items) now.reader.cell now.queued.items (cells_in then.cells.items) then.reader.cell then.queued.items d handled more h le turned in
-    let P : Bool → Type 0 = λ b. Rounding (actors_of p settings) weight cost takes began (moment_of settings.contexts then) (d + 1) b in
+    let next = machine-rounding_more settings.contexts (slots_of p settings) (reader_of p settings.contexts) weight (cost settings.contexts) measure takes began (cells_in now.cells.items) now.reader.cell now.queued.items (cells_in then.cells.items) then.reader.cell then.queued.items d handled more h le turned in
+    let P : Bool → Type 0 = λ b. Rounding (actors_of p settings) weight (cost settings.contexts) takes began (moment_of settings.contexts then) (d + 1) b in
     subst P (sym is) next
 
 -- the reader's turn ends the round
-pub round-over : (p : Program) (settings : Settings) → IsMeasure (actors_of p settings) (IsJoinedLog settings.contexts) weight cost → (takes : Bool) (old now then : World) (d : ℕ) (handled more both : Bool) → Rounding (actors_of p settings) weight cost takes (moment_of settings.contexts old) (moment_of settings.contexts now) d handled → d ≡ settings.contexts
+pub round-over : (p : Program) (settings : Settings) → IsMeasure (actors_of p settings) (IsJoinedLog settings.contexts) weight (cost settings.contexts) → (takes : Bool) (old now then : World) (d : ℕ) (handled more both : Bool) → Rounding (actors_of p settings) weight (cost settings.contexts) takes (moment_of settings.contexts old) (moment_of settings.contexts now) d handled → d ≡ settings.contexts
     → now.reader ≡ old.reader → TurnsOn p settings takes settings.contexts now then more → (takes ≡ false → then.reader.cell.rest ≡ now.reader.cell.rest) → both ≡ (handled || more) → IsStanding p settings then → IsFitting p then → RoundsOn p settings takes old then both
 round-over p settings measure takes old now then d handled more both h at same turned waits is stands fits =
-    let P : ℕ → Type 0 = λ k. Rounding (actors_of p settings) weight cost takes (moment_of settings.contexts old) (moment_of settings.contexts now) k handled in
+    let P : ℕ → Type 0 = λ k. Rounding (actors_of p settings) weight (cost settings.contexts) takes (moment_of settings.contexts old) (moment_of settings.contexts now) k handled in
     let last = turn-more p settings measure takes (moment_of settings.contexts old) now then settings.contexts handled more both (subst P at h) (omega arith) turned is in
     let end : suc settings.contexts ≤ settings.contexts + 1 = omega arith in
     record {
       standing = stands;
       fitting = fits;
-      rounded = rounding-all (actors_of p settings) weight cost takes (moment_of settings.contexts old) (moment_of settings.contexts then) (settings.contexts + 1) both last end;
+      rounded = rounding-all (actors_of p settings) weight (cost settings.contexts) takes (moment_of settings.contexts old) (moment_of settings.contexts then) (settings.contexts + 1) both last end;
       waits = λ no_items. waits no_items ∙ ap (λ (r : ReaderPart). r.cell.rest) same;
     }
 

@@ -14,7 +14,7 @@ use Rattle.world_serial.proofs.TurnLemmas.{Turned, taken-none, turn-spent, turn-
 
 -- the parts of one turn of an actor, and what was found
 abbrev pub PartsTurned : Program → Settings → Bool → ℕ → List CellPart → ReaderPart → List (List (Entry Cargo)) → List CellPart → ReaderPart → List (List (Entry Cargo)) → Bool → Type 0
-PartsTurned p settings takes d cells reader queued cells' reader' queued' found = Turned settings.contexts (slots_of p settings) (reader_of p) takes d (cells_in cells) reader.cell queued (cells_in cells') reader'.cell queued' found
+PartsTurned p settings takes d cells reader queued cells' reader' queued' found = Turned settings.contexts (slots_of p settings) (reader_of p settings.contexts) takes d (cells_in cells) reader.cell queued (cells_in cells') reader'.cell queued' found
 
 -- what holds at each place holds there with one item changed
 each-set : {X : Type 0} (P : ℕ → X → Type 0) (xs : List X) (d : ℕ) (x : X) → P d x → ((k : ℕ) → IfSome (slice_get xs k) (P k)) → (k : ℕ) → IfSome (slice_get (slice_set xs d x) k) (P k)
@@ -58,13 +58,13 @@ module _ (p : Program) (settings : Settings) (cells : List CellPart) (reader : R
   -- the slot is spent
   pub slot-spent : (takes : Bool) (slot : ℕ) (c : CellPart) → slot < settings.contexts → c ≡ get_or cells slot c → c.cell.state.spent ≡ true → PartsTurned p settings takes slot cells reader queued cells reader queued false
   slot-spent takes slot c lt read spent =
-      turn-spent settings.contexts (slots_of p settings) (reader_of p) takes slot (cells_in cells) reader.cell queued c.cell h.stand (get-map cell_of cells slot c (cell-at slot c lt read)) spent
+      turn-spent settings.contexts (slots_of p settings) (reader_of p settings.contexts) takes slot (cells_in cells) reader.cell queued c.cell h.stand (get-map cell_of cells slot c (cell-at slot c lt read)) spent
 
   -- nothing waits for it
   pub slot-idle : (takes : Bool) (slot : ℕ) (c : CellPart) (queued' : List (List (Entry Cargo))) → slot < settings.contexts → c ≡ get_or cells slot c → None ≡ first_of (queue_at queued slot) → queued' ≡ slice_set queued slot (rest_of (queue_at queued slot))
       → PartsTurned p settings takes slot cells reader queued cells reader queued' false
   slot-idle takes slot c queued' lt read first taken =
-      turn-idle settings.contexts (slots_of p settings) (reader_of p) takes slot (cells_in cells) reader.cell queued queued' c.cell h.stand (get-map cell_of cells slot c (cell-at slot c lt read)) first taken
+      turn-idle settings.contexts (slots_of p settings) (reader_of p settings.contexts) takes slot (cells_in cells) reader.cell queued queued' c.cell h.stand (get-map cell_of cells slot c (cell-at slot c lt read)) first taken
 
   pub idle-stands : (k : ℕ) (queued' : List (List (Entry Cargo))) → None ≡ first_of (queue_at queued k) → queued' ≡ slice_set queued k (rest_of (queue_at queued k)) → Standing p settings cells reader queued'
   idle-stands k queued' first taken = subst (Standing p settings cells reader) (sym (taken-none queued queued' k first taken)) h
@@ -75,7 +75,7 @@ module _ (p : Program) (settings : Settings) (cells : List CellPart) (reader : R
       → queued'' ≡ delivered c.cell.state.slot (number_after c.cell.number e) ((slots_of p settings).sent c.cell.state (number_after c.cell.number e) e) queued' → PartsTurned p settings takes slot cells reader queued (slice_set cells slot c') reader queued'' true
   slot-handled takes slot c c' e queued' queued'' lt read alive first taken after sent =
       let n : ℕ = number_after c.cell.number e in
-      turn-handled settings.contexts (slots_of p settings) (reader_of p) takes slot (cells_in cells) (cells_in (slice_set cells slot c')) reader.cell queued queued' queued'' c.cell c'.cell e h.stand (get-map cell_of cells slot c (cell-at slot c lt read)) alive first taken after
+      turn-handled settings.contexts (slots_of p settings) (reader_of p settings.contexts) takes slot (cells_in cells) (cells_in (slice_set cells slot c')) reader.cell queued queued' queued'' c.cell c'.cell e h.stand (get-map cell_of cells slot c (cell-at slot c lt read)) alive first taken after
       (set-map cell_of cells slot c') (sent ∙ ap (λ s. delivered s n ((slots_of p settings).sent c.cell.state n e) queued') (cell-stands slot c lt read).slot)
 
   pub handled-stands : (takes : Bool) (slot k : ℕ) (c c' : CellPart) (queued' queued'' : List (List (Entry Cargo))) → slot < settings.contexts → c ≡ get_or cells slot c → PartsTurned p settings takes slot cells reader queued (slice_set cells slot c') reader queued'' true

@@ -58,21 +58,21 @@ fresh-each settings (suc n) k =
 
 pub loaded-count : (p : Program) (contexts actors : ℕ) (reader : ReaderPart) (items : List Item) (queued : List (List (Entry Cargo))) → actors ≡ contexts + 1 → queued ≡ empty_queues actors → reader ≡ source.fresh_part p contexts items → length reader.outboxes ≡ length queued
 loaded-count p contexts actors reader items queued count empty fresh =
-    let loaded : length (loaded_queues contexts (reader_of p)) ≡ suc contexts = length-arrived contexts 0 (slots_only contexts (loads_below (length p.monitors))) 0 (empty_queues (suc contexts)) ∙ length-empty (suc contexts) in
-    let boxes : length reader.outboxes ≡ length (loaded_queues contexts (reader_of p)) = ap (λ (r : ReaderPart). length r.outboxes) fresh in
+    let loaded : length (loaded_queues contexts (reader_of p contexts)) ≡ suc contexts = length-arrived contexts 0 (slots_only contexts (loads_below (length p.monitors))) 0 (empty_queues (suc contexts)) ∙ length-empty (suc contexts) in
+    let boxes : length reader.outboxes ≡ length (loaded_queues contexts (reader_of p contexts)) = ap (λ (r : ReaderPart). length r.outboxes) fresh in
     let queues : length queued ≡ actors = ap length empty ∙ length-empty actors in
     omega arith
 
 -- handed over they are the loaded queues, and the reader has handed over all
 pub begins : (p : Program) (contexts actors : ℕ) (reader reader' : ReaderPart) (items : List Item) (queued queued' : List (List (Entry Cargo))) → actors ≡ contexts + 1 → queued ≡ empty_queues actors → items ≡ [] → reader ≡ source.fresh_part p contexts items
-    → Gathers reader.outboxes queued reader'.outboxes queued' → (reader'.cell ≡ reader.cell) × (reader'.contexts ≡ reader.contexts) → (reader' ≡ fresh_handed p contexts) × (queued' ≡ loaded_queues contexts (reader_of p))
+    → Gathers reader.outboxes queued reader'.outboxes queued' → (reader'.cell ≡ reader.cell) × (reader'.contexts ≡ reader.contexts) → (reader' ≡ fresh_handed p contexts) × (queued' ≡ loaded_queues contexts (reader_of p contexts))
 begins p contexts actors reader reader' items queued queued' count empty none fresh gathers same =
     let more : actors ≡ suc contexts = omega arith in
     let is : queued ≡ empty_queues (suc contexts) = empty ∙ ap empty_queues more in
     let counted : length queued ≡ suc contexts = ap length is ∙ length-empty (suc contexts) in
     let boxes : length reader.outboxes ≡ suc contexts = loaded-count p contexts actors reader items queued count empty fresh ∙ counted in
-    let sent : reader.outboxes ≡ loaded_queues contexts (reader_of p) = ap (λ (r : ReaderPart). r.outboxes) fresh in
-    let cell : reader'.cell ≡ fresh_reader (reader_of p) [] = same.0 ∙ ap (λ (r : ReaderPart). r.cell) fresh ∙ ap (fresh_reader (reader_of p)) none in (
+    let sent : reader.outboxes ≡ loaded_queues contexts (reader_of p contexts) = ap (λ (r : ReaderPart). r.outboxes) fresh in
+    let cell : reader'.cell ≡ fresh_reader (reader_of p contexts) [] = same.0 ∙ ap (λ (r : ReaderPart). r.cell) fresh ∙ ap (fresh_reader (reader_of p contexts)) none in (
       part-same reader' (fresh_handed p contexts) (same.1 ∙ ap (λ (r : ReaderPart). r.contexts) fresh) cell (emptied-boxes (suc contexts) reader.outboxes queued reader'.outboxes queued' gathers boxes),
       handed-over contexts 0 (suc contexts) (slots_only contexts (loads_below (length p.monitors))) reader.outboxes queued reader'.outboxes queued' gathers sent counted
           ∙ ap (delivered contexts 0 (slots_only contexts (loads_below (length p.monitors)))) is,
@@ -87,10 +87,10 @@ cells-are p settings w h = ap cells_in h.cells_are ∙ fresh-cells p settings se
 -- the parts at the start stand
 pub fresh-stands : (p : Program) (settings : Settings) (w : World) → IsFresh p settings w → IsStanding p settings w
 fresh-stands p settings w h =
-    let A : List (Cell Context Cargo) → ReaderCell ReaderState Cargo Item → List (List (Entry Cargo)) → Type 0 = Stand settings.contexts (slots_of p settings) (reader_of p) in
-    let at_end : A (fresh_cells (slots_of p settings) settings.contexts) (fresh_reader (reader_of p) []) (loaded_queues settings.contexts (reader_of p)) = fresh-stand settings.contexts (slots_of p settings) (reader_of p) [] in
-    let P : List (Cell Context Cargo) → Type 0 = λ cells. A cells (fresh_reader (reader_of p) []) (loaded_queues settings.contexts (reader_of p)) in
-    let Q : ReaderPart → Type 0 = λ reader. A (cells_in w.cells.items) reader.cell (loaded_queues settings.contexts (reader_of p)) in
+    let A : List (Cell Context Cargo) → ReaderCell ReaderState Cargo Item → List (List (Entry Cargo)) → Type 0 = Stand settings.contexts (slots_of p settings) (reader_of p settings.contexts) in
+    let at_end : A (fresh_cells (slots_of p settings) settings.contexts) (fresh_reader (reader_of p settings.contexts) []) (loaded_queues settings.contexts (reader_of p settings.contexts)) = fresh-stand settings.contexts (slots_of p settings) (reader_of p settings.contexts) [] in
+    let P : List (Cell Context Cargo) → Type 0 = λ cells. A cells (fresh_reader (reader_of p settings.contexts) []) (loaded_queues settings.contexts (reader_of p settings.contexts)) in
+    let Q : ReaderPart → Type 0 = λ reader. A (cells_in w.cells.items) reader.cell (loaded_queues settings.contexts (reader_of p settings.contexts)) in
     let R : List (List (Entry Cargo)) → Type 0 = λ queued. A (cells_in w.cells.items) w.reader.cell queued in
     let E : List CellPart → Type 0 = λ cells. (k : ℕ) → IfSome (slice_get cells k) (CellStands settings.contexts k) in
     record {
@@ -102,11 +102,11 @@ fresh-stands p settings w h =
 
 -- what they are as logs and queues
 fresh-moment : (p : Program) (settings : Settings) (w : World) → IsFresh p settings w
-    → moment_of settings.contexts w ≡ world_of settings.contexts (fresh_cells (slots_of p settings) settings.contexts) (fresh_reader (reader_of p) []) (loaded_queues settings.contexts (reader_of p))
+    → moment_of settings.contexts w ≡ world_of settings.contexts (fresh_cells (slots_of p settings) settings.contexts) (fresh_reader (reader_of p settings.contexts) []) (loaded_queues settings.contexts (reader_of p settings.contexts))
 fresh-moment p settings w h =
     ap (λ (cells : List (Cell Context Cargo)). world_of settings.contexts cells w.reader.cell w.queued.items) (cells-are p settings w h)
     ∙ ap (λ (reader : ReaderPart). world_of settings.contexts (fresh_cells (slots_of p settings) settings.contexts) reader.cell w.queued.items) h.reader_is
-    ∙ ap (λ (queued : List (List (Entry Cargo))). world_of settings.contexts (fresh_cells (slots_of p settings) settings.contexts) (fresh_reader (reader_of p) []) queued) h.queued_are
+    ∙ ap (λ (queued : List (List (Entry Cargo))). world_of settings.contexts (fresh_cells (slots_of p settings) settings.contexts) (fresh_reader (reader_of p settings.contexts) []) queued) h.queued_are
 
 -- the reader with these items to come
 abbrev pub given_items : List Item → ReaderPart → ReaderPart
@@ -139,13 +139,13 @@ boots p settings first last reader items fresh finishes given fit =
     ap (λ (r : ReaderCell ReaderState Cargo Item). world_of contexts (cells_in last.cells.items) r last.queued.items) (sym same) in
     let F : Moment (Cargo ⊎ Item) → Moment (Cargo ⊎ Item) → Type 0 = IsFinished (actors_of p settings) false in
     let P : Moment (Cargo ⊎ Item) → Type 0 = λ m. F m (moment_of contexts last) in
-    let Q : Moment (Cargo ⊎ Item) → Type 0 = λ m. F (world_of contexts (fresh_cells (slots_of p settings) contexts) (fresh_reader (reader_of p) []) (loaded_queues contexts (reader_of p))) m in
+    let Q : Moment (Cargo ⊎ Item) → Type 0 = λ m. F (world_of contexts (fresh_cells (slots_of p settings) contexts) (fresh_reader (reader_of p contexts) []) (loaded_queues contexts (reader_of p contexts))) m in
     let finished = subst Q to (subst P (fresh-moment p settings first fresh) finishes.finished) in
     let items_are : reader.cell.rest ≡ items = ap (λ (r : ReaderPart). r.cell.rest) given in
     let fits = given-fits p last.cells.items last.reader.cell.rest reader.cell.rest last.queued.items finishes.fitting (subst (ItemsFit p) (sym items_are) fit) in
     record {
       standing = subst (λ (r : ReaderPart). Standing p settings last.cells.items r last.queued.items) (sym given) (given-stands p settings last.cells.items last.reader last.queued.items items finishes.standing);
       fitting = fits;
-      boot = machine-boot contexts (slots_of p settings) (reader_of p) (cells_in last.cells.items) reader.cell last.queued.items finished;
+      boot = machine-boot contexts (slots_of p settings) (reader_of p settings.contexts) (cells_in last.cells.items) reader.cell last.queued.items finished;
       items_are = items_are;
     }

@@ -30,7 +30,7 @@ pub record CellStands (contexts place : ℕ) (c : CellPart) : Type 0 where
 
 -- each part stands at its log, and has handed over what it sent
 pub record Standing (p : Program) (settings : Settings) (cells : List CellPart) (reader : ReaderPart) (queued : List (List (Entry Cargo))) : Type 0 where
-  pub stand : Stand settings.contexts (slots_of p settings) (reader_of p) (cells_in cells) reader.cell queued
+  pub stand : Stand settings.contexts (slots_of p settings) (reader_of p settings.contexts) (cells_in cells) reader.cell queued
   pub each : (k : ℕ) → IfSome (slice_get cells k) (CellStands settings.contexts k)
   pub contexts : reader.contexts ≡ settings.contexts
   pub handed : reader.outboxes ≡ empty_queues (suc settings.contexts)
@@ -45,7 +45,7 @@ moment_of contexts w = world_of contexts (cells_in w.cells.items) w.reader.cell 
 -- actor d has had its turn
 abbrev pub TurnsOn : Program → Settings → Bool → ℕ → World → World → Bool → Type 0
 TurnsOn p settings takes d old new found =
-    Stepped settings.contexts (slots_of p settings) (reader_of p) (cells_in old.cells.items) old.reader.cell old.queued.items (turn_of (actors_of p settings) takes (moment_of settings.contexts old) d)
+    Stepped settings.contexts (slots_of p settings) (reader_of p settings.contexts) (cells_in old.cells.items) old.reader.cell old.queued.items (turn_of (actors_of p settings) takes (moment_of settings.contexts old) d)
     (cells_in new.cells.items) new.reader.cell new.queued.items found
 
 abbrev pub with_cell : ReaderCell ReaderState Cargo Item → ReaderPart → ReaderPart
@@ -54,20 +54,20 @@ with_cell cell r = record r { cell = cell }
 -- the reader has taken the first of these items, where there is one, and has handed over what it sends
 abbrev pub TakesFirst : Program → ReaderPart → List (List (Entry Cargo)) → List Item → ReaderPart → List (List (Entry Cargo)) → Type 0
 TakesFirst p r queued [] r' queued' = (r' ≡ r) × (queued' ≡ queued)
-TakesFirst p r queued (i ∷ rest) r' queued' = (r' ≡ with_cell (reader_after_item (reader_of p) r.cell i rest) r) × (queued' ≡ delivered r.contexts (1 + r.cell.number) (slots_only r.contexts (item_sends i)) queued)
+TakesFirst p r queued (i ∷ rest) r' queued' = (r' ≡ with_cell (reader_after_item (reader_of p r.contexts) r.cell i rest) r) × (queued' ≡ delivered r.contexts (1 + r.cell.number) (slots_only r.contexts (item_sends r.contexts i)) queued)
 
--- what is handled costs one, and an item one more for what it sends
+-- what is handled costs one, and an item as many more as there are contexts for what it sends, and one
 abbrev pub weight : (Context ⊎ ReaderState) → ℕ
 weight = joined_weight (λ c. 0) (λ r. 0)
 
-abbrev pub cost : ℕ → Entry (Cargo ⊎ Item) → ℕ
-cost = joined_cost (λ d e. 1) (λ i. 2)
+abbrev pub cost : ℕ → ℕ → Entry (Cargo ⊎ Item) → ℕ
+cost contexts = joined_cost (λ d e. 1) (λ i. contexts + 2)
 
 -- each actor has had its turn
 pub record RoundsOn (p : Program) (settings : Settings) (takes : Bool) (old new : World) (handled : Bool) : Type 0 where
   pub standing : IsStanding p settings new
   pub fitting : IsFitting p new
-  pub rounded : Rounded (actors_of p settings) weight cost takes (moment_of settings.contexts old) (moment_of settings.contexts new) handled
+  pub rounded : Rounded (actors_of p settings) weight (cost settings.contexts) takes (moment_of settings.contexts old) (moment_of settings.contexts new) handled
   -- the reader takes an item only where it may
   pub waits : takes ≡ false → new.reader.cell.rest ≡ old.reader.cell.rest
 
@@ -85,13 +85,13 @@ fresh_parts settings (suc n) = fresh_parts settings n ++ fresh_part n settings �
 
 -- a reader without items that has handled nothing, and has handed over the loads
 abbrev pub fresh_handed : Program → ℕ → ReaderPart
-fresh_handed p contexts = record { contexts = contexts; cell = fresh_reader (reader_of p) []; outboxes = empty_queues (suc contexts) }
+fresh_handed p contexts = record { contexts = contexts; cell = fresh_reader (reader_of p contexts) []; outboxes = empty_queues (suc contexts) }
 
 -- nothing has been handled, no items are there, and the loads are queued
 pub record IsFresh (p : Program) (settings : Settings) (w : World) : Type 0 where
   pub cells_are : w.cells.items ≡ fresh_parts settings settings.contexts
   pub reader_is : w.reader ≡ fresh_handed p settings.contexts
-  pub queued_are : w.queued.items ≡ loaded_queues settings.contexts (reader_of p)
+  pub queued_are : w.queued.items ≡ loaded_queues settings.contexts (reader_of p settings.contexts)
   pub fitting : IsFitting p w
 
 -- boot is over, and these items are still to come

@@ -10,7 +10,7 @@ pub slots-init : goal.slots-init
 slots-init c = record {
   standing = c.requires.standing;
   fitting = c.requires.fitting;
-  rounding = rounding-none (actors_of c.args.program.now c.args.settings) weight cost c.args.takes (moment_of c.args.settings.contexts c.args.world.now);
+  rounding = rounding-none (actors_of c.args.program.now c.args.settings) weight (cost c.args.settings.contexts) c.args.takes (moment_of c.args.settings.contexts c.args.world.now);
   waits = refl;
 }
 

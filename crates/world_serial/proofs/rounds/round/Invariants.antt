@@ -9,6 +9,6 @@ abbrev pub invariant-slots : goal.invariant-slots
 invariant-slots l = record {
   standing : IsStanding l.program l.settings l.world;
   fitting : IsFitting l.program l.world;
-  rounding : Rounding (actors_of l.program l.settings) weight cost l.takes (moment_of l.settings.contexts l.initial.world) (moment_of l.settings.contexts l.world) l.slot l.handled;
+  rounding : Rounding (actors_of l.program l.settings) weight (cost l.settings.contexts) l.takes (moment_of l.settings.contexts l.initial.world) (moment_of l.settings.contexts l.world) l.slot l.handled;
   waits : l.world.reader ≡ l.initial.world.reader;
 }

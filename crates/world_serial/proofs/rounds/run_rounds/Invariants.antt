@@ -15,4 +15,4 @@ invariant-rounds l = record {
 }
 
 abbrev pub decreases-rounds : goal.decreases-rounds
-decreases-rounds l = potential (actors_of l.program l.settings) weight cost (moment_of l.settings.contexts l.world)
+decreases-rounds l = potential (actors_of l.program l.settings) weight (cost l.settings.contexts) (moment_of l.settings.contexts l.world)

@@ -10,7 +10,7 @@ use Rattle.world_serial.proofs.turns.reader_turn.Goals as goal
 
 pub returns-in-Some-clause-turn : goal.returns-in-Some-clause-turn
 returns-in-Some-clause-turn c =
-    turn-entry c.args.settings.contexts (slots_of c.args.program.now c.args.settings) (reader_of c.args.program.now) c.args.takes (cells_in c.args.world.now.cells.items) c.args.world.now.reader.cell c.handle.new.self.cell c.args.world.now.queued.items c.pop_at.new.queued.items c.in-Some.entry
+    turn-entry c.args.settings.contexts (slots_of c.args.program.now c.args.settings) (reader_of c.args.program.now c.args.settings.contexts) c.args.takes (cells_in c.args.world.now.cells.items) c.args.world.now.reader.cell c.handle.new.self.cell c.args.world.now.queued.items c.pop_at.new.queued.items c.in-Some.entry
     c.requires.standing.stand c.in-Some.ensures.first c.pop_at.ensures.rest (ap (λ (x : ReaderPart). x.cell) (c.in_ok-handle.ensures c.args.program.now))
 
 pub returns-in-Some-clause-standing : goal.returns-in-Some-clause-standing
@@ -35,7 +35,7 @@ returns-in-Some-clause-waits c no_items = ap (λ (x : ReaderPart). x.cell.rest) 
 
 pub returns-then-not-takes-clause-turn : goal.returns-then-not-takes-clause-turn
 returns-then-not-takes-clause-turn c =
-    turn-wait c.args.settings.contexts (slots_of c.args.program.now c.args.settings) (reader_of c.args.program.now) c.args.takes (cells_in c.args.world.now.cells.items) c.args.world.now.reader.cell c.args.world.now.queued.items c.pop_at.new.queued.items c.requires.standing.stand c.in_default.ensures.first
+    turn-wait c.args.settings.contexts (slots_of c.args.program.now c.args.settings) (reader_of c.args.program.now c.args.settings.contexts) c.args.takes (cells_in c.args.world.now.cells.items) c.args.world.now.reader.cell c.args.world.now.queued.items c.pop_at.new.queued.items c.requires.standing.stand c.in_default.ensures.first
     c.pop_at.ensures.rest c.if-not-takes.true
 
 pub returns-then-not-takes-clause-standing : goal.returns-then-not-takes-clause-standing
