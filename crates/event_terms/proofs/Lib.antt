@@ -1,0 +1,5 @@
+pub mod Chains
+pub mod Leaving
+pub mod Running
+pub mod Steps
+pub mod Waiting
