@@ -2,4 +2,5 @@ pub mod Chains
 pub mod Leaving
 pub mod Running
 pub mod Steps
-pub mod Waiting
+pub mod Told
+pub mod Waits

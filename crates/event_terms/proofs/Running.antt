@@ -66,9 +66,9 @@ module _ (setting : Setting) (s : Stimulus) (p : Pattern) (seen : List Binding) 
         count = length_set (slice_set ran.copies at e) at new ∙ length_set ran.copies at e ∙ g.count;
         rest = left_behind ran.copies at e new ∙ rest;
         same =
-        ap (λ r. run_copies p seen r (map (step_copy setting s) (drop (at + 1) xs))) (sym (one_ran ran at copy e a inside is))
-        ∙ ap (λ ys. run_copies p seen (done at ran) (map (step_copy setting s) ys)) (sym first)
-        ∙ g.same;
+            ap (λ r. run_copies p seen r (map (step_copy setting s) (drop (at + 1) xs))) (sym (one_ran ran at copy e a inside is))
+            ∙ ap (λ ys. run_copies p seen (done at ran) (map (step_copy setting s) ys)) (sym first)
+            ∙ g.same;
       }
 
   -- where all were stepped, the run is over

@@ -1,4 +1,4 @@
 pub mod Parts
 pub mod Runs
 pub mod Settings
-pub mod Standing
+pub mod States

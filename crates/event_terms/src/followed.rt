@@ -12,8 +12,7 @@ use crate::starting::start;
 use epl_values::List;
 use std::alloc::{AllocError, Global};
 use term_meaning::{
-    Binding, Completion, Completions, Grown, Held, Progress, Ran, Running, RunningCopies,
-    Stepped,
+    Binding, Completion, Completions, Grown, Held, Progress, Ran, Running, RunningCopies, Stepped,
 };
 use term_operands::{Origin, extend};
 
@@ -76,7 +75,10 @@ fn grown(
     let own = extend(origin.alloc, List::new(origin.alloc), seen)?;
     let bindings = extend(origin.alloc, own, completion)?;
     let a = start(origin, part, bindings.as_slice(), more.next)?;
-    let Grown { copies: before, next: _ } = more;
+    let Grown {
+        copies: before,
+        next: _,
+    } = more;
     let mut copies = before;
     copies.push(Running {
         bindings,
@@ -116,7 +118,12 @@ fn followed(
     ensures { (ran : TheRan) → ran.completions ≡ completions → ran.fitted ≡ ran_fitted → result ≡ followed_step ran a grown }
 {
     let over = is_gone(&a.left) && grown.copies.len() == 0;
-    let Stepped { completions: _, left, next: _, fitted } = a;
+    let Stepped {
+        completions: _,
+        left,
+        next: _,
+        fitted,
+    } = a;
     let Grown { copies, next } = grown;
     Stepped {
         completions,
@@ -138,11 +145,22 @@ pub fn growing(
 ) -> Result<Stepped, AllocError>
     ensures { IfOk result (λ r. r ≡ growing (setting origin.entry.now) ran a (form_pattern whole.entry) seen.now) }
 {
-    let Ran { completions, copies, next: _, fitted } = ran;
+    let Ran {
+        completions,
+        copies,
+        next: _,
+        fitted,
+    } = ran;
     let more = Grown {
         copies: those_left(copies),
         next: a.next,
     };
-    let grown = grow(origin, second_of(whole), seen, more, a.completions.as_slice())?;
+    let grown = grow(
+        origin,
+        second_of(whole),
+        seen,
+        more,
+        a.completions.as_slice(),
+    )?;
     Ok(followed(held, completions, fitted, a, grown))
 }

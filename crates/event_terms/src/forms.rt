@@ -46,11 +46,7 @@ pub fn still(alloc: Global, left: Progress, next: u64) -> Stepped
 
 // ---- leaves
 
-fn bound(
-    alloc: Global,
-    binds: Option<u16>,
-    event: Option<&Value>,
-) -> Result<Completion, AllocError>
+fn bound(alloc: Global, binds: Option<u16>, event: Option<&Value>) -> Result<Completion, AllocError>
     ensures { IfOk result (λ b. b ≡ bound binds (option_copied event.entry)) }
 {
     let mut bindings = List::new(alloc);
@@ -178,7 +174,10 @@ pub fn within(held: Held<Progress>, number: u64, until: i128, a: Stepped) -> Ste
     let over = is_gone(&a.left);
     Stepped {
         completions: a.completions,
-        left: unless(over, Progress::Within(number, until, refilled(held, a.left))),
+        left: unless(
+            over,
+            Progress::Within(number, until, refilled(held, a.left)),
+        ),
         next: a.next,
         fitted: a.fitted,
     }
@@ -206,8 +205,18 @@ pub fn or(held: Sides, a: Stepped, b: Stepped) -> Stepped
 {
     let over = either_over(&a, &b);
     let a_completed = is_completed(&a);
-    let Stepped { completions: first, left, next: _, fitted: a_fitted } = a;
-    let Stepped { completions: second, left: right, next, fitted: b_fitted } = b;
+    let Stepped {
+        completions: first,
+        left,
+        next: _,
+        fitted: a_fitted,
+    } = a;
+    let Stepped {
+        completions: second,
+        left: right,
+        next,
+        fitted: b_fitted,
+    } = b;
     Stepped {
         completions: chosen(a_completed, first, second),
         left: unless(over, Progress::Or(put_back(held, left, right))),
@@ -222,8 +231,18 @@ pub fn xor(alloc: Global, held: Sides, a: Stepped, b: Stepped) -> Stepped
     let over = either_over(&a, &b);
     let a_completed = is_completed(&a);
     let b_completed = is_completed(&b);
-    let Stepped { completions: first, left, next: _, fitted: a_fitted } = a;
-    let Stepped { completions: second, left: right, next, fitted: b_fitted } = b;
+    let Stepped {
+        completions: first,
+        left,
+        next: _,
+        fitted: a_fitted,
+    } = a;
+    let Stepped {
+        completions: second,
+        left: right,
+        next,
+        fitted: b_fitted,
+    } = b;
     let only = chosen(b_completed, List::new(alloc), first);
     Stepped {
         completions: chosen(a_completed, only, second),
@@ -238,11 +257,24 @@ pub fn and_not(alloc: Global, held: Sides, a: Stepped, b: Stepped) -> Stepped
 {
     let dropped = is_completed(&b);
     let a_gone = is_gone(&a.left);
-    let Stepped { completions, left, next: _, fitted: a_fitted } = a;
-    let Stepped { completions: _, left: right, next, fitted: b_fitted } = b;
+    let Stepped {
+        completions,
+        left,
+        next: _,
+        fitted: a_fitted,
+    } = a;
+    let Stepped {
+        completions: _,
+        left: right,
+        next,
+        fitted: b_fitted,
+    } = b;
     Stepped {
         completions: chosen(dropped, List::new(alloc), completions),
-        left: unless(dropped || a_gone, Progress::AndNot(put_back(held, left, right))),
+        left: unless(
+            dropped || a_gone,
+            Progress::AndNot(put_back(held, left, right)),
+        ),
         next,
         fitted: a_fitted || b_fitted,
     }
@@ -253,11 +285,24 @@ pub fn not_and(alloc: Global, held: Sides, a: Stepped, b: Stepped) -> Stepped
 {
     let dropped = is_completed(&a);
     let b_gone = is_gone(&b.left);
-    let Stepped { completions: _, left, next: _, fitted: a_fitted } = a;
-    let Stepped { completions, left: right, next, fitted: b_fitted } = b;
+    let Stepped {
+        completions: _,
+        left,
+        next: _,
+        fitted: a_fitted,
+    } = a;
+    let Stepped {
+        completions,
+        left: right,
+        next,
+        fitted: b_fitted,
+    } = b;
     Stepped {
         completions: chosen(dropped, List::new(alloc), completions),
-        left: unless(dropped || b_gone, Progress::NotAnd(put_back(held, left, right))),
+        left: unless(
+            dropped || b_gone,
+            Progress::NotAnd(put_back(held, left, right)),
+        ),
         next,
         fitted: a_fitted || b_fitted,
     }
@@ -353,8 +398,18 @@ fn and_left(
     ensures { result ≡ and_left a b left right completions }
 {
     let over = and_over(&a.left, &b.left, &left, &right);
-    let Stepped { completions: _, left: x, next: _, fitted: a_fitted } = a;
-    let Stepped { completions: _, left: y, next, fitted: b_fitted } = b;
+    let Stepped {
+        completions: _,
+        left: x,
+        next: _,
+        fitted: a_fitted,
+    } = a;
+    let Stepped {
+        completions: _,
+        left: y,
+        next,
+        fitted: b_fitted,
+    } = b;
     Stepped {
         completions,
         left: unless(over, Progress::And(put_back(held, x, y), left, right)),

@@ -5,7 +5,7 @@ ghost use Rattle.term_meaning.specs.Active.{Active, leaves_in, leaves_of_copy, l
 use epl_tree::Mode;
 use epl_values::List;
 use std::alloc::{AllocError, Global};
-use term_meaning::{Leaf, Leaves, Progress, RunningCopies, Sides};
+use term_meaning::{Leaf, Leaves, Progress, Running, RunningCopies, Sides};
 use term_operands::copy_leaf;
 
 fn timer_leaf(alloc: Global, event: u16, number: u64, until: i128) -> Leaf
@@ -37,9 +37,7 @@ fn with_leaves(alloc: Global, front: Leaves, progress: &Progress) -> Result<Leav
     match progress {
         Progress::Gone => Ok(front),
         Progress::Template(leaf) => with_leaf(front, copy_leaf(alloc, leaf)?),
-        Progress::Wait(number, due) => {
-            with_leaf(front, timer_leaf(alloc, 65535, *number, *due))
-        }
+        Progress::Wait(number, due) => { with_leaf(front, timer_leaf(alloc, 65535, *number, *due)) }
         Progress::All(x) => with_leaves(alloc, front, x.get()),
         Progress::Followed(x, copies) => {
             let all = with_leaves(alloc, front, x.get())?;
@@ -68,6 +66,13 @@ fn with_sides(alloc: Global, front: Leaves, sides: &Sides) -> Result<Leaves, All
 
 #[cycle(leaves)]
 #[tactic(auto, using(crate::proofs::Leaving::copy_leaves))]
+fn with_copy(alloc: Global, front: Leaves, copy: &Running) -> Result<Leaves, AllocError>
+    ensures { IfOk result (λ all. all ≡ front ++ leaves_of_copy copy.now) }
+{
+    with_leaves(alloc, front, &copy.progress)
+}
+
+#[cycle(leaves)]
 fn with_copies(
     alloc: Global,
     front: Leaves,
@@ -77,7 +82,7 @@ fn with_copies(
 {
     let mut all = front;
     'copies: for copy in copies.as_slice() {
-        all = with_leaves(alloc, all, &copy.progress)?;
+        all = with_copy(alloc, all, copy)?;
     }
     Ok(all)
 }

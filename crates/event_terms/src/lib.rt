@@ -12,5 +12,4 @@ mod state;
 mod stepping;
 mod waiting;
 
-pub use moment::StepOut;
-pub use state::State;
+pub use state::{State, StepOut};

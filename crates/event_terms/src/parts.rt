@@ -17,12 +17,20 @@ fn alone(term: &Term) -> Part<'_>
     }
 }
 
+#[tactic(auto, using(crate::proofs::Chains::operands))]
 fn is_not(term: &Term) -> bool
     ensures { result ≡ (operand_of term.now).negated }
 {
     match term {
         Term::Not(_) => true,
-        _ => false,
+        Term::Followed(_, _) => false,
+        Term::Or(_, _) => false,
+        Term::Xor(_, _) => false,
+        Term::And(_, _) => false,
+        Term::All(_) => false,
+        Term::Group(_, _) => false,
+        Term::Wait(_) => false,
+        Term::Template(_) => false,
     }
 }
 
@@ -74,6 +82,7 @@ fn chain(part: Part<'_>) -> Option<Form<'_>>
 }
 
 /// The outermost form of an event expression.
+#[tactic(auto, using(crate::proofs::Chains::operands))]
 pub fn form_of(term: &Term) -> Form<'_>
     ensures { form_pattern result ≡ pattern_of term.now }
 {

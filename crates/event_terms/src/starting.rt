@@ -71,7 +71,11 @@ fn wait(origin: &Origin<'_>, duration: Duration, next: u64) -> Result<Started, A
     ensures { IfOk result (λ a. a ≡ begun (progress.Wait next (time_after (setting origin.entry.now) duration)) (next + 1)) }
 {
     let after = following(next)?;
-    begun(origin, Progress::Wait(next, origin.time_after(duration)), after)
+    begun(
+        origin,
+        Progress::Wait(next, origin.time_after(duration)),
+        after,
+    )
 }
 
 /// An event expression as it begins.
@@ -94,32 +98,56 @@ pub fn start(
         }
         Form::Followed(x, _) => {
             let a = start_part(origin, x, seen, next)?;
-            begun(origin, Progress::Followed(a.progress, List::new(origin.alloc)), a.next)
+            begun(
+                origin,
+                Progress::Followed(a.progress, List::new(origin.alloc)),
+                a.next,
+            )
         }
         Form::And(x, y) => {
             let a = start_part(origin, x, seen, next)?;
             let b = start_part(origin, y, seen, a.next)?;
-            begun(origin, Progress::And(sides_of(a.progress, b.progress), None, None), b.next)
+            begun(
+                origin,
+                Progress::And(sides_of(a.progress, b.progress), None, None),
+                b.next,
+            )
         }
         Form::AndNot(x, y) => {
             let a = start_part(origin, x, seen, next)?;
             let b = start_part(origin, y, seen, a.next)?;
-            begun(origin, Progress::AndNot(sides_of(a.progress, b.progress)), b.next)
+            begun(
+                origin,
+                Progress::AndNot(sides_of(a.progress, b.progress)),
+                b.next,
+            )
         }
         Form::NotAnd(x, y) => {
             let a = start_part(origin, x, seen, next)?;
             let b = start_part(origin, y, seen, a.next)?;
-            begun(origin, Progress::NotAnd(sides_of(a.progress, b.progress)), b.next)
+            begun(
+                origin,
+                Progress::NotAnd(sides_of(a.progress, b.progress)),
+                b.next,
+            )
         }
         Form::Or(x, y) => {
             let a = start_part(origin, x, seen, next)?;
             let b = start_part(origin, y, seen, a.next)?;
-            begun(origin, Progress::Or(sides_of(a.progress, b.progress)), b.next)
+            begun(
+                origin,
+                Progress::Or(sides_of(a.progress, b.progress)),
+                b.next,
+            )
         }
         Form::Xor(x, y) => {
             let a = start_part(origin, x, seen, next)?;
             let b = start_part(origin, y, seen, a.next)?;
-            begun(origin, Progress::Xor(sides_of(a.progress, b.progress)), b.next)
+            begun(
+                origin,
+                Progress::Xor(sides_of(a.progress, b.progress)),
+                b.next,
+            )
         }
         Form::Within(x, duration) => {
             let inner = following(next)?;

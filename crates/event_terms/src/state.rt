@@ -1,13 +1,13 @@
-ghost use Rattle.std.specs.Prelude.{◌≡◌, ◌<◌, ◌≤ℤ◌, pos, length, slice_get, Some, [], IfOk};
+ghost use Rattle.std.specs.Prelude.{◌≡◌, ◌<◌, ◌≤ℤ◌, ◌+◌, ◌-◌, ◌^◌, pos, length, slice_get, Some, [], IfOk};
 ghost use Rattle.typed_program.specs.declared.program.Site.{Site as TheSite};
 ghost use Rattle.term_meaning.specs.Active.{Active, Idle, fitted};
-ghost use Rattle.term_meaning.specs.UnderWay.{begun_in, setting_of, stepped_in};
+ghost use Rattle.term_meaning.specs.UnderWay.{begun_in, setting_of};
 ghost use Rattle.term_meaning.specs.Waits.{GoesOn};
-ghost use Rattle.event_terms.specs.Standing.{IsStill, Moves};
+ghost use Rattle.event_terms.specs.States.{IsStill, Steps};
 
 use crate::forms::is_gone;
 use crate::leaves::active_leaves;
-use crate::moment::{Moment, StepOut};
+use crate::moment::Moment;
 use crate::parts::form_of;
 use crate::starting::start;
 use crate::stepping::step;
@@ -16,9 +16,19 @@ use epl_values::{List, Values};
 use std::alloc::{AllocError, Global};
 use std::marker::Model;
 use std::mem;
-use term_meaning::{Leaves, Progress, Stepped, Stimulus};
+use term_meaning::{Completions, Leaves, Progress, Stepped, Stimulus};
 use term_operands::Origin;
 use typed_program::Program;
+
+/// What a step of an event expression gives: its completions in order; whether nothing is left of it; whether an active ordinary
+/// leaf fitted the event; how many leaves began.
+#[derive(Drop)]
+pub struct StepOut {
+    pub completions: Completions,
+    pub ended: bool,
+    pub fitted: bool,
+    pub begun: u64,
+}
 
 /// The event expression of a site, under way. It keeps the operands of the site as they were at the `on`.
 #[derive(Drop)]
@@ -30,15 +40,16 @@ pub struct State {
 }
 
 impl Model for State {
-    ghost use Rattle.event_terms.specs.Standing.{Standing};
+    ghost use Rattle.event_terms.specs.States.{SiteExpression};
     ghost use Rattle.epl_values.specs.contracts.value.Value as value;
+    ghost use Rattle.term_meaning.specs.contracts.progress.Progress as course;
     ghost use Rattle.std.specs.Coded.{codes};
 
-    ghost Value = { Standing };
+    ghost Value = { SiteExpression };
 
-    ghost coded = { Prim.hlevel (codes, value.the_row.coded) };
+    ghost coded = { Prim.hlevel (codes, value.the_row.coded, course.the_row.coded) };
 
-    ghost view = { λ s. record { site = s.site; under_way = record { operands = s.operands; progress = s.progress; next = s.next } } };
+    ghost view = { λ s. record { site = s.site; expression = record { operands = s.operands; progress = s.progress; next = s.next } } };
 
     ghost use Rattle.term_meaning.specs.Waits.{GoesOn};
 
@@ -56,10 +67,10 @@ impl State {
         now: i128,
     ) -> Result<State, AllocError>
         requires there { site < length program.now.sites }
-        requires begun { pos 0 ≤ℤ now }
-        requires soon { now ≤ℤ pos 10000000000000 }
-        ensures is { (found : TheSite) → slice_get program.now.sites site ≡ Some found → IfOk result (λ s. s ≡ record { site = site; under_way = begun_in (setting_of program.now.types found operands now) }) }
-        ensures goes { IfOk result (λ s. GoesOn s.under_way.progress) }
+        requires from { pos 0 ≤ℤ now }
+        requires to { now ≤ℤ pos (10 ^ 13 - 1) }
+        ensures is { IfOk result (λ s. (found : TheSite) → slice_get program.now.sites site ≡ Some found → s ≡ record { site = site; expression = begun_in (setting_of program.now.types found operands now) }) }
+        ensures goes { IfOk result (λ s. GoesOn s.expression.progress) }
     {
         let found = program.sites.get(site as usize);
         let origin = Origin {
@@ -87,12 +98,13 @@ impl State {
         now: i128,
     ) -> Result<StepOut, AllocError>
         requires there { self.old.site < length program.now.sites }
-        requires begun { pos 0 ≤ℤ now }
-        requires soon { now ≤ℤ pos 10000000000000 }
-        ensures moves { (found : TheSite) → slice_get program.now.sites self.old.site ≡ Some found → IfOk result (Moves (stepped_in (setting_of program.now.types found self.old.under_way.operands now) stimulus.now self.old.under_way) self.old self.new) }
-        ensures fitted { IfOk result (λ out. out.fitted ≡ fitted self.old.under_way.progress stimulus.now) }
-        ensures still { Idle self.old.under_way.progress stimulus.now → IfOk result (IsStill self.old self.new) }
-        ensures goes { IfOk result (λ out. GoesOn self.new.under_way.progress) }
+        requires from { pos 0 ≤ℤ now }
+        requires to { now ≤ℤ pos (10 ^ 13 - 1) }
+        ensures steps { IfOk result (λ out. Steps program.now stimulus.now now self.old out self.new) }
+        ensures fitted { IfOk result (λ out. out.fitted ≡ fitted self.old.expression.progress stimulus.now) }
+        ensures still { Idle self.old.expression.progress stimulus.now → IfOk result (λ out. IsStill self.old out self.new) }
+        ensures count { IfOk result (λ out. out.begun + self.old.expression.next ≡ self.new.expression.next) }
+        ensures goes { IfOk result (λ out. GoesOn self.new.expression.progress) }
     {
         if !waits_in(&self.progress, stimulus) {
             return Ok(StepOut {
@@ -117,7 +129,12 @@ impl State {
         };
         let stepped = step(progress, &moment, form_of(&found.term), &[], before)?;
         let ended = is_gone(&stepped.left);
-        let Stepped { completions, left, next, fitted } = stepped;
+        let Stepped {
+            completions,
+            left,
+            next,
+            fitted,
+        } = stepped;
         let Some(begun) = next.checked_sub(before) else {
             return Err(AllocError);
         };
@@ -133,7 +150,7 @@ impl State {
 
     /// Its active leaves, in order of their beginning.
     pub fn leaves(&self, alloc: Global) -> Result<Leaves, AllocError>
-        ensures { IfOk result (Active self.now.under_way.progress) }
+        ensures { IfOk result (Active self.now.expression.progress) }
     {
         active_leaves(alloc, &self.progress)
     }
@@ -145,9 +162,9 @@ impl State {
         self.site
     }
 
-    /// How many leaves have begun in it, which is the number of the next one.
-    pub fn next(&self) -> u64
-        ensures { result ≡ self.now.under_way.next }
+    /// How many leaves began in it, which is the number of the next one.
+    pub fn begun(&self) -> u64
+        ensures { result ≡ self.now.expression.next }
     {
         self.next
     }

@@ -6,7 +6,9 @@ ghost use Rattle.event_terms.specs.Settings.{setting_at};
 ghost use Rattle.event_terms.specs.Runs.{fresh_ran, ran_at};
 
 use crate::followed::{behind, growing};
-use crate::forms::{all_again, all_on, and, and_not, is_gone, not_and, or, still, template, wait, within, xor};
+use crate::forms::{
+    all_again, all_on, and, and_not, is_gone, not_and, or, still, template, wait, within, xor,
+};
 use crate::moment::Moment;
 use crate::parts::{binds_of, first_of, second_of};
 use crate::shown::Form;
@@ -58,11 +60,33 @@ fn ran_on(
     requires { at < length ran.copies }
     ensures { IfOk result (λ r. r ≡ ran_at seen.now ran at bindings a) }
 {
-    let Ran { completions: front, copies: before, next: _, fitted: fitted_before } = ran;
-    let Stepped { completions, left, next, fitted } = a;
-    let all = behind(alloc, front, seen, bindings.as_slice(), completions.as_slice())?;
+    let Ran {
+        completions: front,
+        copies: before,
+        next: _,
+        fitted: fitted_before,
+    } = ran;
+    let Stepped {
+        completions,
+        left,
+        next,
+        fitted,
+    } = a;
+    let all = behind(
+        alloc,
+        front,
+        seen,
+        bindings.as_slice(),
+        completions.as_slice(),
+    )?;
     let mut copies = before;
-    copies.set(at, Running { bindings, progress: left });
+    copies.set(
+        at,
+        Running {
+            bindings,
+            progress: left,
+        },
+    );
     Ok(Ran {
         completions: all,
         copies,
@@ -137,7 +161,13 @@ fn step_within(
         return Ok(still(moment.origin.alloc, Progress::Gone, next));
     }
     let mut held = held;
-    let a = step(held.put(Progress::Gone), moment, first_of(whole), seen, next)?;
+    let a = step(
+        held.put(Progress::Gone),
+        moment,
+        first_of(whole),
+        seen,
+        next,
+    )?;
     Ok(within(held, number, until, a))
 }
 
@@ -155,7 +185,13 @@ fn step_followed(
 {
     let ran = run(copies, moment, second_of(whole), seen, next)?;
     let mut held = held;
-    let a = step(held.put(Progress::Gone), moment, first_of(whole), seen, ran.next)?;
+    let a = step(
+        held.put(Progress::Gone),
+        moment,
+        first_of(whole),
+        seen,
+        ran.next,
+    )?;
     growing(&moment.origin, held, ran, a, whole, seen)
 }
 
@@ -197,9 +233,18 @@ fn both(
 ) -> Result<(Sides, Both), AllocError>
     ensures { IfOk result (λ r. r.1 ≡ both_sides (step_sides (setting_at moment.entry.now) moment.entry.now.stimulus.now sides) (form_pattern whole.entry) seen.now next) }
 {
-    let Sides { left: mut x, right: mut y } = sides;
+    let Sides {
+        left: mut x,
+        right: mut y,
+    } = sides;
     let a = step(x.put(Progress::Gone), moment, first_of(whole), seen, next)?;
-    let b = step(y.put(Progress::Gone), moment, second_of(whole), seen, a.next)?;
+    let b = step(
+        y.put(Progress::Gone),
+        moment,
+        second_of(whole),
+        seen,
+        a.next,
+    )?;
     Ok((Sides { left: x, right: y }, Both { left: a, right: b }))
 }
 

@@ -2,7 +2,7 @@ ghost use Rattle.std.specs.Prelude.{◌≡◌, map};
 ghost use Rattle.std.specs.List.{list_any};
 ghost use Rattle.term_meaning.specs.Waits.{leaf_waits, waits_in, waits_in_copy, waits_in_sides};
 
-use term_meaning::{Leaf, Progress, RunningCopies, Sides, Stimulus};
+use term_meaning::{Leaf, Progress, Running, RunningCopies, Sides, Stimulus};
 use term_operands::{hears, is_due, is_late};
 
 fn leaf_waits(stimulus: &Stimulus, leaf: &Leaf) -> bool
@@ -13,7 +13,7 @@ fn leaf_waits(stimulus: &Stimulus, leaf: &Leaf) -> bool
 
 /// Whether something in an event expression waits for a stimulus.
 #[cycle(waiting)]
-#[tactic(auto, using(crate::proofs::Waiting::waiting))]
+#[tactic(auto, using(crate::proofs::Waits::waiting))]
 pub fn waits_in(progress: &Progress, stimulus: &Stimulus) -> bool
     ensures { result ≡ waits_in stimulus.now progress.now }
 {
@@ -30,14 +30,12 @@ pub fn waits_in(progress: &Progress, stimulus: &Stimulus) -> bool
         Progress::NotAnd(sides) => either_waits(sides, stimulus),
         Progress::Or(sides) => either_waits(sides, stimulus),
         Progress::Xor(sides) => either_waits(sides, stimulus),
-        Progress::Within(_, until, x) => {
-            is_due(stimulus, *until) || waits_in(x.get(), stimulus)
-        }
+        Progress::Within(_, until, x) => { is_due(stimulus, *until) || waits_in(x.get(), stimulus) }
     }
 }
 
 #[cycle(waiting)]
-#[tactic(auto, using(crate::proofs::Waiting::sides_wait_is))]
+#[tactic(auto, using(crate::proofs::Waits::sides_wait_is))]
 fn either_waits(sides: &Sides, stimulus: &Stimulus) -> bool
     ensures { result ≡ waits_in_sides stimulus.now sides.now }
 {
@@ -45,12 +43,19 @@ fn either_waits(sides: &Sides, stimulus: &Stimulus) -> bool
 }
 
 #[cycle(waiting)]
-#[tactic(auto, using(crate::proofs::Waiting::copy_wait_is))]
+#[tactic(auto, using(crate::proofs::Waits::copy_wait_is))]
+fn copy_waits(copy: &Running, stimulus: &Stimulus) -> bool
+    ensures { result ≡ waits_in_copy stimulus.now copy.now }
+{
+    waits_in(&copy.progress, stimulus)
+}
+
+#[cycle(waiting)]
 fn any_waits(copies: &RunningCopies, stimulus: &Stimulus) -> bool
     ensures { result ≡ list_any (λ c. c) (map (waits_in_copy stimulus.now) copies.now) }
 {
     'copies: for copy in copies.as_slice() {
-        if waits_in(&copy.progress, stimulus) {
+        if copy_waits(copy, stimulus) {
             return true;
         }
     }
