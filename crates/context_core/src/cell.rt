@@ -36,11 +36,12 @@ pub type Cells = List<Cell>;
 impl Model for Cell {
     ghost use Rattle.context_core.specs.Cells.{CellPart};
     ghost use Rattle.epl_values.specs.contracts.value.Value as value;
+    ghost use Rattle.term_meaning.specs.contracts.progress.Progress as course;
     ghost use Rattle.std.specs.Coded.{codes};
 
     ghost Value = { CellPart };
 
-    ghost coded = { Prim.hlevel (codes, value.the_row.coded) };
+    ghost coded = { Prim.hlevel (codes, value.the_row.coded, course.the_row.coded) };
 
     ghost view = { λ c. record { cell = record { state = c.context; number = c.number; log = c.log }; outboxes = c.outboxes.items } };
 }
