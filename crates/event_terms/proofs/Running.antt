@@ -1,7 +1,7 @@
 -- Copies that are stepped at their places, one after another.
 use Rattle.std.proofs.Common.{arith, ◌≡◌, ◌<◌, ◌≤◌, ◌+◌, ℕ, List, [], ◌∷◌, ◌++◌, ◌||◌, map, take, drop, length, slice_get, slice_set, slice_index_or, Option, Some, refl, sym, ap, ap₂, ◌∙◌, subst}
 use Rattle.std.proofs.lemmas.Grind.{drop_more_same}
-use Rattle.std.proofs.lemmas.List.{drop-set-lt, drop_all, drop_more, take-set, take_all, take_more_set}
+use Rattle.std.proofs.lemmas.List.{length-set, drop-set-lt, drop_all, drop_more, take-set, take_all, take_more_set}
 use Rattle.std.proofs.lemmas.Option.{get_or_from_slice_get}
 use Rattle.term_meaning.specs.declared.progress.Ran.{Ran}
 use Rattle.term_meaning.specs.declared.progress.Running.{Running, out-Running}
@@ -15,7 +15,7 @@ use Rattle.term_meaning.proofs.Still.{copy_step}
 use Rattle.event_terms.specs.Runs.{fresh_ran, ran_at}
 
 length_set : {A : Type 0} (xs : List A) (n : ℕ) (x : A) → length (slice_set xs n x) ≡ length xs
-length_set xs n x = omega arith
+length_set xs n x = length-set xs n x
 
 -- what is left from a place on begins with what stands there
 pub drop_at : {A : Type 0} (xs : List A) (n : ℕ) (x : A) → n < length xs → slice_get xs n ≡ Some x → drop n xs ≡ x ∷ drop (n + 1) xs

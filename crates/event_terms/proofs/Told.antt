@@ -1,19 +1,22 @@
 -- What a step of a site's event expression tells.
 use Rattle.std.proofs.Common.{arith, ◌≡◌, ◌+◌, ◌-◌, ◌≤◌, ℕ, ℤ, false, List, [], Some, None, slice_get, refl, sym, ap, ◌∙◌, subst}
 use Rattle.std.proofs.lemmas.Option.{same_Some}
+use Rattle.epl_values.specs.declared.value.Value.{Value}
 use Rattle.typed_program.specs.declared.program.Program.{Program}
 use Rattle.typed_program.specs.declared.program.Site.{Site}
 use Rattle.term_meaning.specs.declared.progress.Progress.{Progress}
+use Rattle.term_meaning.specs.declared.progress.Started.{Started}
 use Rattle.term_meaning.specs.declared.progress.Stepped.{Stepped}
 use Rattle.term_meaning.specs.declared.stimulus.Stimulus.{Stimulus}
 use Rattle.term_meaning.specs.Active.{Idle, fitted}
 use Rattle.term_meaning.specs.Patterns.{pattern_of}
+use Rattle.term_meaning.specs.Start.{start_of}
 use Rattle.term_meaning.specs.Step.{is_gone, step_of, still}
-use Rattle.term_meaning.specs.UnderWay.{left_of, setting_of, stepped_in}
+use Rattle.term_meaning.specs.UnderWay.{begun_in, left_of, setting_of, stepped_in}
 use Rattle.term_meaning.specs.Waits.{GoesOn, waits_in}
 use Rattle.term_meaning.proofs.Fitted.{fitted_told}
 use Rattle.term_meaning.proofs.Idling.{nothing_waits}
-use Rattle.term_meaning.proofs.Keeping.{steps_go}
+use Rattle.term_meaning.proofs.Keeping.{begun_goes, steps_go}
 use Rattle.term_meaning.proofs.Still.{nothing_stepped}
 use Rattle.event_terms.specs.declared.state.StepOut.{StepOut}
 use Rattle.event_terms.specs.States.{IsStill, Moves, SiteExpression, Steps}
@@ -51,3 +54,15 @@ module _ (program : Program) (s : Stimulus) (now : ℤ) (old : SiteExpression) w
 
   pub left_goes : (site : Site) → GoesOn old.expression.progress → GoesOn (at site).left
   left_goes site on = steps_go (setting_of program.types site old.expression.operands now) s old.expression.progress (pattern_of site.term) [] old.expression.next on
+
+-- what begins at a site
+abbrev pub site_begun : ℕ → List Value → Started → SiteExpression
+site_begun n operands a = record { site = n; expression = record { operands = operands; progress = a.progress; next = a.next } }
+
+module _ (program : Program) (n : ℕ) (operands : List Value) (now : ℤ) (found : Site) (there : slice_get program.sites n ≡ Some found) (a : Started)
+    (is : a ≡ start_of (setting_of program.types found operands now) (pattern_of found.term) [] 0) where
+  pub begins : (other : Site) → slice_get program.sites n ≡ Some other → site_begun n operands a ≡ record { site = n; expression = begun_in (setting_of program.types other operands now) }
+  begins other at = subst (λ f. site_begun n operands a ≡ record { site = n; expression = begun_in (setting_of program.types f operands now) }) (same_Some found other (sym there ∙ at)) (ap (site_begun n operands) is)
+
+  pub begins_going : GoesOn a.progress
+  begins_going = subst (λ (b : Started). GoesOn b.progress) (sym is) (begun_goes (setting_of program.types found operands now) (pattern_of found.term) [] 0)
