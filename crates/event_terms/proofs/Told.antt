@@ -28,6 +28,13 @@ module _ (program : Program) (s : Stimulus) (now : ℤ) (old : SiteExpression) w
   abbrev at : Site → Stepped
   at found = stepped_in (setting_of program.types found old.expression.operands now) s old.expression
 
+  -- what is told of the fit where nothing waits
+  pub still_fitted : Site → GoesOn old.expression.progress → waits_in s old.expression.progress ≡ false → false ≡ fitted old.expression.progress s
+  still_fitted site on quiet =
+      let setting = setting_of program.types site old.expression.operands now in
+      sym (ap (λ (a : Stepped). a.fitted) (nothing_stepped setting s old.expression.progress (pattern_of site.term) [] old.expression.next on quiet))
+      ∙ fitted_told setting s old.expression.progress (pattern_of site.term) [] old.expression.next
+
   -- a step of an expression in which nothing waits
   pub still_steps : (out : StepOut) → GoesOn old.expression.progress → waits_in s old.expression.progress ≡ false
       → out.completions ≡ [] → out.ended ≡ is_gone old.expression.progress → out.fitted ≡ false → out.begun ≡ 0 → Steps program s now old out old
@@ -43,26 +50,3 @@ module _ (program : Program) (s : Stimulus) (now : ℤ) (old : SiteExpression) w
       begun = begun ∙ none_less old.expression.next ∙ ap (λ (a : Stepped). a.next - old.expression.next) (sym none);
     }
   }
-
-  -- the site that stands there is the one that was found
-  pub moved_steps : (site : Site) → slice_get program.sites old.site ≡ Some site → (out : StepOut) (new : SiteExpression) → Moves (at site) old out new → Steps program s now old out new
-  moved_steps site is out new moves = record { moves = λ found there. subst (λ f. Moves (at f) old out new) (same_Some site found (sym is ∙ there)) moves }
-
-  -- what is told of the fit
-  pub told_fitted : (site : Site) → (at site).fitted ≡ fitted old.expression.progress s
-  told_fitted site = fitted_told (setting_of program.types site old.expression.operands now) s old.expression.progress (pattern_of site.term) [] old.expression.next
-
-  pub left_goes : (site : Site) → GoesOn old.expression.progress → GoesOn (at site).left
-  left_goes site on = steps_go (setting_of program.types site old.expression.operands now) s old.expression.progress (pattern_of site.term) [] old.expression.next on
-
--- what begins at a site
-abbrev pub site_begun : ℕ → List Value → Started → SiteExpression
-site_begun n operands a = record { site = n; expression = record { operands = operands; progress = a.progress; next = a.next } }
-
-module _ (program : Program) (n : ℕ) (operands : List Value) (now : ℤ) (found : Site) (there : slice_get program.sites n ≡ Some found) (a : Started)
-    (is : a ≡ start_of (setting_of program.types found operands now) (pattern_of found.term) [] 0) where
-  pub begins : (other : Site) → slice_get program.sites n ≡ Some other → site_begun n operands a ≡ record { site = n; expression = begun_in (setting_of program.types other operands now) }
-  begins other at = subst (λ f. site_begun n operands a ≡ record { site = n; expression = begun_in (setting_of program.types f operands now) }) (same_Some found other (sym there ∙ at)) (ap (site_begun n operands) is)
-
-  pub begins_going : GoesOn a.progress
-  begins_going = subst (λ (b : Started). GoesOn b.progress) (sym is) (begun_goes (setting_of program.types found operands now) (pattern_of found.term) [] 0)
