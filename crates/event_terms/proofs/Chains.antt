@@ -5,7 +5,6 @@ use Rattle.std.proofs.lemmas.Bool.{false≢true}
 use Rattle.typed_program.specs.declared.term.Duration.{Duration}
 use Rattle.typed_program.specs.declared.term.TemplateShape.{TemplateShape}
 use Rattle.typed_program.specs.declared.term.Term.{Term, Term-F, roll-Term, map-Term, fold-roll-Term}
-use Rattle.typed_program.specs.declared.term.Term.TheOpen as layer
 use Rattle.typed_program.specs.declared.term.Term.TheVariants as term
 use Rattle.term_meaning.specs.declared.progress.Link.{Link}
 use Rattle.term_meaning.specs.declared.progress.Link.TheVariants as link

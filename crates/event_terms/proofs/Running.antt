@@ -1,5 +1,5 @@
 -- Copies that are stepped at their places, one after another.
-use Rattle.std.proofs.Common.{arith, ◌≡◌, ◌<◌, ◌≤◌, ◌+◌, ℕ, zero, suc, List, [], ◌∷◌, ◌++◌, ◌||◌, map, take, drop, length, slice_get, slice_set, slice_index_or, Option, Some, refl, sym, ap, ap₂, ◌∙◌, subst}
+use Rattle.std.proofs.Common.{arith, ◌≡◌, ◌<◌, ◌≤◌, ◌+◌, ℕ, zero, suc, List, [], ◌∷◌, ◌++◌, map, take, drop, length, slice_get, slice_set, Some, refl, sym, ap, ◌∙◌, subst}
 use Rattle.std.proofs.lemmas.Grind.{drop_more_same}
 use Rattle.std.proofs.lemmas.List.{length-set, drop-set-lt, drop_all, drop_more, take-set, take_all, take_more_set}
 use Rattle.std.proofs.lemmas.Option.{get_or_from_slice_get}
@@ -10,7 +10,7 @@ use Rattle.term_meaning.specs.declared.stimulus.Binding.{Binding}
 use Rattle.term_meaning.specs.declared.stimulus.Stimulus.{Stimulus}
 use Rattle.term_meaning.specs.Operands.{Setting}
 use Rattle.term_meaning.specs.Patterns.{Pattern}
-use Rattle.term_meaning.specs.Step.{Copy, copy_of, none_ran, run_copies, run_copy, step_copy, step_of}
+use Rattle.term_meaning.specs.Step.{copy_of, none_ran, run_copies, run_copy, step_copy, step_of}
 use Rattle.term_meaning.proofs.Still.{copy_step}
 use Rattle.event_terms.specs.Runs.{fresh_ran, ran_at}
 

@@ -73,11 +73,7 @@ fn with_copy(alloc: Global, front: Leaves, copy: &Running) -> Result<Leaves, All
 }
 
 #[cycle(leaves)]
-fn with_copies(
-    alloc: Global,
-    front: Leaves,
-    copies: &RunningCopies,
-) -> Result<Leaves, AllocError>
+fn with_copies(alloc: Global, front: Leaves, copies: &RunningCopies) -> Result<Leaves, AllocError>
     ensures { IfOk result (λ all. all ≡ front ++ flat_map (λ leaves. leaves) (map leaves_of_copy copies.now)) }
 {
     let mut all = front;

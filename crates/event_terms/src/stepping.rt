@@ -118,7 +118,13 @@ pub fn step(
         Progress::Followed(held, copies) => {
             let ran = run(copies, moment, second_of(whole), seen, next)?;
             let mut x = held;
-            let a = step(x.put(Progress::Gone), moment, first_of(whole), seen, ran.next)?;
+            let a = step(
+                x.put(Progress::Gone),
+                moment,
+                first_of(whole),
+                seen,
+                ran.next,
+            )?;
             growing(&moment.origin, x, ran, a, whole, seen)
         }
         Progress::And(sides, l, r) => step_and(sides, l, r, moment, whole, seen, next),

@@ -9,8 +9,8 @@ returns c =
     subst (Active c.args.progress.now) (sym c.from_vec.ensures)
     (record {
       all =
-      subst (λ ls. IsPermutation ls c.sort_by_key.new.self.items)
-      (c.into_vec-leaves.ensures ∙ c.in_ok-with_leaves.ensures ∙ ap (λ ls. ls ++ leaves_in c.args.progress.now) c.new.ensures)
-      c.sort_by_key.ensures.permutation;
+          subst (λ ls. IsPermutation ls c.sort_by_key.new.self.items)
+          (c.into_vec-leaves.ensures ∙ c.in_ok-with_leaves.ensures ∙ ap (λ ls. ls ++ leaves_in c.args.progress.now) c.new.ensures)
+          c.sort_by_key.ensures.permutation;
       in_order = IsNonDecreasingBy-from_sort_by_key (λ leaf. leaf.number) _ c.in_ok-sort_by_key.ensures.sorted (λ a r q k. search rules);
     })

@@ -20,12 +20,12 @@ pub run-copies-preserved : goal.run-copies-preserved
 run-copies-preserved t c =
     subst (Goes (setting_at c.args.moment.now) c.args.moment.now.stimulus.now (form_pattern c.args.part) c.args.seen.now c.args.copies c.args.next (c.copies.at + 1)) (sym c.in_ok-ran.ensures)
     (
-      goes_more (setting_at c.args.moment.now) c.args.moment.now.stimulus.now (form_pattern c.args.part) c.args.seen.now c.args.copies c.args.next c.copies.at c.copies.ran c.set-bindings.new.self
-      c.set-bindings.result _ c.in_ok-a.a c.copies.invariant (subst (λ n. c.copies.at < n) c.len-count.ensures.count c.copies-test.true) c.set-bindings.ensures.old c.set-bindings.ensures.new
-      (
-        c.in_ok-a.ensures
-        ∙ ap (λ b. step_of (setting_at c.args.moment.now) c.args.moment.now.stimulus.now c.set-bindings.result.progress (form_pattern c.args.part) b c.copies.ran.next) c.as_slice.ensures
-      )
+    goes_more (setting_at c.args.moment.now) c.args.moment.now.stimulus.now (form_pattern c.args.part) c.args.seen.now c.args.copies c.args.next c.copies.at c.copies.ran c.set-bindings.new.self
+    c.set-bindings.result _ c.in_ok-a.a c.copies.invariant (subst (λ n. c.copies.at < n) c.len-count.ensures.count c.copies-test.true) c.set-bindings.ensures.old c.set-bindings.ensures.new
+    (
+    c.in_ok-a.ensures
+    ∙ ap (λ b. step_of (setting_at c.args.moment.now) c.args.moment.now.stimulus.now c.set-bindings.result.progress (form_pattern c.args.part) b c.copies.ran.next) c.as_slice.ensures
+    )
     )
 
 pub run-returns : goal.run-returns

@@ -14,19 +14,19 @@ pub returns-then-not-waits_in-clause-steps : goal.returns-then-not-waits_in-clau
 returns-then-not-waits_in-clause-steps c =
     subst (λ (old : SiteExpression). Steps c.args.program.now c.args.stimulus.now c.args.now old (record { completions = c.new.result; ended = c.is_gone.result; fitted = false; begun = 0 }) old) c.self.view_is
     (
-      still_steps c.args.program.now c.args.stimulus.now c.args.now
-      (record { site = c.self.inside.site; expression = record { operands = c.self.inside.operands; progress = c.self.inside.progress; next = c.self.inside.next } })
-      (record { completions = c.new.result; ended = c.is_gone.result; fitted = false; begun = 0 })
-      c.self.invariant (sym c.waits_in.ensures ∙ c.if-not-waits_in.true) c.new.ensures c.is_gone.ensures refl refl
+    still_steps c.args.program.now c.args.stimulus.now c.args.now
+    (record { site = c.self.inside.site; expression = record { operands = c.self.inside.operands; progress = c.self.inside.progress; next = c.self.inside.next } })
+    (record { completions = c.new.result; ended = c.is_gone.result; fitted = false; begun = 0 })
+    c.self.invariant (sym c.waits_in.ensures ∙ c.if-not-waits_in.true) c.new.ensures c.is_gone.ensures refl refl
     )
 
 pub returns-then-not-waits_in-clause-fitted : goal.returns-then-not-waits_in-clause-fitted
 returns-then-not-waits_in-clause-fitted c =
     subst (λ (old : SiteExpression). false ≡ fitted old.expression.progress c.args.stimulus.now) c.self.view_is
     (
-      still_fitted c.args.program.now c.args.stimulus.now c.args.now
-      (record { site = c.self.inside.site; expression = record { operands = c.self.inside.operands; progress = c.self.inside.progress; next = c.self.inside.next } })
-      c.get-found.result.now c.self.invariant (sym c.waits_in.ensures ∙ c.if-not-waits_in.true)
+    still_fitted c.args.program.now c.args.stimulus.now c.args.now
+    (record { site = c.self.inside.site; expression = record { operands = c.self.inside.operands; progress = c.self.inside.progress; next = c.self.inside.next } })
+    c.get-found.result.now c.self.invariant (sym c.waits_in.ensures ∙ c.if-not-waits_in.true)
     )
 
 pub invariant_of-self : goal.invariant_of-self
@@ -49,12 +49,12 @@ pub returns-clause-still : goal.returns-clause-still
 returns-clause-still c = λ idle.
     absurd
     (
-      false≢true
-      (
-        sym (nothing_waits c.self.inside.progress c.args.stimulus.now (subst (λ (v : SiteExpression). Idle v.expression.progress c.args.stimulus.now) (sym c.self.view_is) idle))
-        ∙ sym c.waits_in.ensures
-        ∙ c.if-not-waits_in.false
-      )
+    false≢true
+    (
+    sym (nothing_waits c.self.inside.progress c.args.stimulus.now (subst (λ (v : SiteExpression). Idle v.expression.progress c.args.stimulus.now) (sym c.self.view_is) idle))
+    ∙ sym c.waits_in.ensures
+    ∙ c.if-not-waits_in.false
+    )
     )
 
 pub returns-clause-goes : goal.returns-clause-goes
