@@ -1,90 +1,42 @@
--- The callback that an event lets run at a listener, and charges.
-use Rattle.std.proofs.Common.{◌-◌, ◌^◌, ◌<◌, ◌∷◌, ◌≡◌}
-use Rattle.context_steps.proofs.Common.{ℕ, suc, Bool, true, false, cond, List, [], Option, Some, None, slice_get, refl, sym, ap, subst, ◌∙◌, arith, nat_le, find, Value, Program, Context, Instance, Listener, behind_charge, paid, spend, with_fuel, with_some, is_instance, instance_of, ran, stepped_born, ContextFits, Call, CanRunIn, Keeps, call_found}
-use Rattle.std.specs.List.{Contains}
-use Rattle.epl_values.specs.declared.value.Value.{out-Value}
-use Rattle.typed_program.specs.declared.program.Site.{Site}
-use Rattle.typed_program.specs.declared.term.TemplateShape.{TemplateShape}
-use Rattle.value_shapes.specs.Fits.{IsEvent}
-use Rattle.context_meaning.specs.declared.context.Stimulus.TheVariants as stimulus
-use Rattle.context_meaning.specs.Contexts.{is_born, listener_of}
-use Rattle.context_meaning.specs.Listening.{callback_locals, completes, template_of}
-use Rattle.context_meaning.specs.Turns.{body_number, stepped}
+-- Callbacks, and what they are charged.
+use Rattle.std.proofs.Common.{◌-◌, ◌+◌, ◌^◌, ◌<◌, ◌∷◌, ◌++◌, ◌≡◌, add-one, drop, get_or, append_assoc}
+use Rattle.context_steps.proofs.Common.{ℕ, suc, Bool, true, false, cond, List, [], Option, Some, None, slice_get, refl, sym, ap, subst, ◌∙◌, arith, nat_le, find, length, Value, Program, Site, Context, Instance, Listener, behind_charge, paid, spend, with_fuel, with_some, unless_spent, is_instance, instance_of, listener_of, ran, ContextFits, CallerFits, CanRunIn, InRange, Keeps}
+use Rattle.std.proofs.Math.Seq.{drop-cons}
+use Rattle.std.specs.List.{All}
+use Rattle.epl_values.specs.declared.shape.EventShape.{EventShape}
+use Rattle.typed_program.specs.declared.program.Local.{Local}
+use Rattle.term_meaning.specs.declared.stimulus.Binding.{Binding}
+use Rattle.term_meaning.specs.Operands.{event_of}
+use Rattle.term_shapes.specs.Kept.{CompletionFits, CompletionsFit}
 use Rattle.context_meaning.specs.Fits.{InstanceFits}
-use Rattle.context_meaning.proofs.Finding.{find_all, find_contains}
-use Rattle.context_steps.specs.Calls.{call_at, call_tested, call_stepped}
-use Rattle.context_steps.specs.Steps.{IsSmall}
+use Rattle.context_meaning.specs.Listeners.{bound_from, bound_value, callback_locals}
+use Rattle.context_meaning.specs.Turns.{body_number, called, called_all, called_live}
+use Rattle.context_meaning.proofs.Choosing.{unless_both}
+use Rattle.context_meaning.proofs.Finding.{find_all}
+use Rattle.context_steps.specs.Calls.{is_live}
 
-pub instance_fits : (program : Program) (number : ℕ) (c : Context) (i : Instance) → ContextFits program c → instance_of number c ≡ Some i → InstanceFits program c.begun i
-instance_fits program number c i fit is = find_all (InstanceFits program c.begun) (is_instance number) c.instances i fit.instances is
+-- ---- what a callback begins with
 
--- ---- the callback, and what it means
+next_drop : {A : Type 0} (xs : List A) (k : ℕ) (x : A) → k < length xs → x ≡ get_or xs k x → drop k xs ≡ x ∷ drop (k + 1) xs
+next_drop xs k x lt is = drop-cons xs k x lt ∙ ap (λ y. y ∷ drop (suc k) xs) (sym is) ∙ ap (λ n. x ∷ drop n xs) (sym (add-one k))
 
-abbrev pub called : Program → Option Call → Context → Context
-called program None c = c
-called program (Some call) c = behind_charge 1 (ran program call.instance call.body call.locals) c
-
--- what a listener of a site whose template may be there does
-abbrev tested : Program → Option TemplateShape → Site → Listener → Value → Context → Context
-tested program o site l e c = with_some o (λ t d. cond (completes t (stimulus.Event e)) (behind_charge 1 (ran program l.instance (body_number program l.site) (callback_locals program.types t site l.captured e)) d) d) c
-
-called_tested : (program : Program) (o : Option TemplateShape) (site : Site) (l : Listener) (e : Value) (c : Context) → tested program o site l e c ≡ called program (call_tested program o site l e) c
-called_tested program None site l e c = refl
-called_tested program (Some t) site l e c = go (completes t (stimulus.Event e))
-  where
-    go : (b : Bool) → cond b (behind_charge 1 (ran program l.instance (body_number program l.site) (callback_locals program.types t site l.captured e)) c) c ≡ called program (cond b (Some (call_at program t site l e)) None) c
-    go true = refl
-    go false = refl
-
-called_stepped : (program : Program) (o : Option Site) (l : Listener) (e : Value) (c : Context) → with_some o (λ site d. tested program (template_of site.term) site l e d) c ≡ called program (call_stepped program o l e) c
-called_stepped program None l e c = refl
-called_stepped program (Some site) l e c = called_tested program (template_of site.term) site l e c
-
-called_found : (program : Program) (o : Option Listener) (e : Value) (c : Context) → with_some o (stepped program (stimulus.Event e)) c ≡ called program (call_found program e o) c
-called_found program None e c = refl
-called_found program (Some l) e c = called_stepped program (slice_get program.sites l.site) l e c
-
--- a listener of a birth is stepped as its callback is called
-pub called_born : (program : Program) (e : Value) (birth : ℕ) (c : Context) (o : Option Call) → o ≡ call_found program e (listener_of birth c) → called program o c ≡ stepped_born program (stimulus.Event e) birth c
-called_born program e birth c o so = ap (λ (x : Option Call). called program x c) so ∙ sym (called_found program (listener_of birth c) e c)
-
--- ---- it may run
-
-can_tested : (program : Program) (e : Value) (c : Context) (call : Call) (l : Listener) (site : Site) (o : Option TemplateShape) → Keeps program → ContextFits program c → IsEvent program.types e (out-Value e) → Contains c.listeners l → slice_get program.sites l.site ≡ Some site → template_of site.term ≡ o → call_tested program o site l e ≡ Some call → CanRunIn program call.instance call.body call.locals c
-can_tested program e c call l site None keeps fit event within site_is t_is is = absurd (cc)
-can_tested program e c call l site (Some t) keeps fit event within site_is t_is is = go (completes t (stimulus.Event e)) refl is
-  where
-    go : (b : Bool) → completes t (stimulus.Event e) ≡ b → cond b (Some (call_at program t site l e)) None ≡ Some call → CanRunIn program call.instance call.body call.locals c
-    go false done h = absurd (cc)
-    go true done h =
-        let same : call_at program t site l e ≡ call = cc in
-        subst (λ (k : Call). CanRunIn program k.instance k.body k.locals c) same (λ i there. let fits : InstanceFits program c.begun i = instance_fits program l.instance c i fit there in record { may = keeps.callback l site t (stimulus.Event e) c fit within site_is t_is done event i there; globals = fits.globals; number = fits.number })
-
-can_stepped : (program : Program) (e : Value) (c : Context) (call : Call) (l : Listener) (o : Option Site) → Keeps program → ContextFits program c → IsEvent program.types e (out-Value e) → Contains c.listeners l → slice_get program.sites l.site ≡ o → call_stepped program o l e ≡ Some call → CanRunIn program call.instance call.body call.locals c
-can_stepped program e c call l None keeps fit event within site_is is = absurd (cc)
-can_stepped program e c call l (Some site) keeps fit event within site_is is = can_tested program e c call l site (template_of site.term) keeps fit event within site_is refl is
-
-can_found : (program : Program) (e : Value) (birth : ℕ) (c : Context) (call : Call) (o : Option Listener) → Keeps program → ContextFits program c → IsEvent program.types e (out-Value e) → listener_of birth c ≡ o → call_found program e o ≡ Some call → CanRunIn program call.instance call.body call.locals c
-can_found program e birth c call None keeps fit event found is = absurd (cc)
-can_found program e birth c call (Some l) keeps fit event found is = can_stepped program e c call l (slice_get program.sites l.site) keeps fit event (find_contains (is_born birth) c.listeners l found) refl is
-
--- the callback that an event lets run may run
-pub can_call : (program : Program) (e : Value) (birth : ℕ) (c : Context) (call : Call) → Keeps program → ContextFits program c → IsEvent program.types e (out-Value e) → Some call ≡ call_found program e (listener_of birth c) → CanRunIn program call.instance call.body call.locals c
-can_call program e birth c call keeps fit event is = can_found program e birth c call (listener_of birth c) keeps fit event refl (sym is)
+-- one name more
+pub bound_step : (types : List EventShape) (completion : List Binding) (bs : List Local) (k : ℕ) (b : Local) (v : Value) (xs zs : List Value) → k < length bs → b ≡ get_or bs k b → v ≡ bound_value types completion k b → xs ++ bound_from types completion k (drop k bs) ≡ zs → (xs ++ v ∷ []) ++ bound_from types completion (k + 1) (drop (k + 1) bs) ≡ zs
+bound_step types completion bs k b v xs zs lt is made so =
+    append_assoc xs (v ∷ []) (bound_from types completion (k + 1) (drop (k + 1) bs))
+    ∙ ap (λ w. xs ++ (w ∷ bound_from types completion (k + 1) (drop (k + 1) bs))) made
+    ∙ sym (ap (λ ys. xs ++ bound_from types completion k ys) (next_drop bs k b lt is))
+    ∙ so
 
 -- ---- charges
 
 -- what is known of a context whatever its fuel, and of one that is spent, is known behind a charge
-paid_both : (P : Context → Type 0) (amount : ℕ) (c : Context) → P (with_fuel (c.fuel - amount) c) → P (spend c) → P (paid amount c)
+pub paid_both : (P : Context → Type 0) (amount : ℕ) (c : Context) → P (with_fuel (c.fuel - amount) c) → P (spend c) → P (paid amount c)
 paid_both P amount c h k = by (nat_le amount c.fuel)
   where
     by : (b : Bool) → P (cond b (with_fuel (c.fuel - amount) c) (spend c))
     by true = h
     by false = k
-
--- it may still run
-pub can_paid : (program : Program) (amount number body : ℕ) (locals : List Value) (c d : Context) → d ≡ paid amount c → CanRunIn program number body locals c → CanRunIn program number body locals d
-can_paid program amount number body locals c d so can = subst (CanRunIn program number body locals) (sym so) (paid_both (CanRunIn program number body locals) amount c can can)
 
 -- what was paid for goes on, and else the context is spent
 pub charged_paid : (amount : ℕ) (go : Context → Context) (c d r : Context) → d ≡ paid amount c → nat_le amount c.fuel ≡ true → r ≡ go d → r ≡ behind_charge amount go c
@@ -103,10 +55,68 @@ charged_spent amount go c d paid_is less = paid_is ∙ by (nat_le amount c.fuel)
 
 -- fuel alone
 pub paid_fits : (program : Program) (amount : ℕ) (c d : Context) → d ≡ paid amount c → ContextFits program c → ContextFits program d
-paid_fits program amount c d so fit = subst (ContextFits program) (sym so) (paid_both (ContextFits program) amount c (record { instances = fit.instances; listeners = fit.listeners; row = fit.row; front = fit.front }) (record { instances = fit.instances; listeners = fit.listeners; row = fit.row; front = fit.front }))
+paid_fits program amount c d so fit = subst (ContextFits program) (sym so) (paid_both (ContextFits program) amount c (record { clock = fit.clock; instances = fit.instances; listeners = fit.listeners; row = fit.row; front = fit.front }) (record { clock = fit.clock; instances = fit.instances; listeners = fit.listeners; row = fit.row; front = fit.front }))
 
 less : (a b : ℕ) → a < 2 ^ 64 - 1 → a - b < 2 ^ 64 - 1
 less a b h = omega (arith, h)
 
-pub paid_small : (amount : ℕ) (c d : Context) → d ≡ paid amount c → IsSmall c → IsSmall d
-paid_small amount c d so small = subst IsSmall (sym so) (paid_both IsSmall amount c (less c.fuel amount small) small)
+pub paid_range : (amount : ℕ) (c d : Context) → d ≡ paid amount c → InRange c → InRange d
+paid_range amount c d so h = subst InRange (sym so) (paid_both InRange amount c (record { fuel = less c.fuel amount h.fuel; clock = h.clock }) (record { fuel = h.fuel; clock = h.clock }))
+
+-- ---- a callback may run
+
+pub instance_fits : (program : Program) (number : ℕ) (c : Context) (i : Instance) → ContextFits program c → instance_of number c ≡ Some i → InstanceFits program c.begun i
+instance_fits program number c i fit is = find_all (InstanceFits program c.begun) (is_instance number) c.instances i fit.instances is
+
+-- in its instance, with a completion that fits
+can_call : (program : Program) (l : Listener) (site : Site) (completion : List Binding) (c : Context) → Keeps program → ContextFits program c → CallerFits program l site c → CompletionFits program.types site.bound completion → CanRunIn program l.instance (body_number program l.site) (callback_locals program.types site l.captured completion) c
+can_call program l site completion c keeps fit caller bound = λ i there.
+    let fits : InstanceFits program c.begun i = instance_fits program l.instance c i fit there in
+    record { may = keeps.callback l site completion c fit caller bound i there; globals = fits.globals; number = fits.number }
+
+-- behind its charge
+pub can_paid : (program : Program) (l : Listener) (site : Site) (completion : List Binding) (body : ℕ) (locals : List Value) (c d : Context) → Keeps program → ContextFits program c → CallerFits program l site c → CompletionFits program.types site.bound completion → d ≡ paid 1 c → body ≡ body_number program l.site → locals ≡ callback_locals program.types site l.captured completion → CanRunIn program l.instance body locals d
+can_paid program l site completion body locals c d keeps fit caller bound so body_is locals_is =
+    let first : CanRunIn program l.instance (body_number program l.site) (callback_locals program.types site l.captured completion) c = can_call program l site completion c keeps fit caller bound in
+    let second : CanRunIn program l.instance (body_number program l.site) (callback_locals program.types site l.captured completion) d = subst (CanRunIn program l.instance (body_number program l.site) (callback_locals program.types site l.captured completion)) (sym so) (paid_both (CanRunIn program l.instance (body_number program l.site) (callback_locals program.types site l.captured completion)) 1 c first first) in
+    let third : CanRunIn program l.instance body (callback_locals program.types site l.captured completion) d = subst (λ b. CanRunIn program l.instance b (callback_locals program.types site l.captured completion) d) (sym body_is) second in
+    subst (λ (ls : List Value). CanRunIn program l.instance body ls d) (sym locals_is) third
+
+-- it runs
+pub ran_called : (program : Program) (l : Listener) (site : Site) (completion : List Binding) (body : ℕ) (locals : List Value) (c d r : Context) → d ≡ paid 1 c → nat_le 1 c.fuel ≡ true → body ≡ body_number program l.site → locals ≡ callback_locals program.types site l.captured completion → r ≡ ran program l.instance body locals d → r ≡ called program l site completion c
+ran_called program l site completion body locals c d r paid_is enough body_is locals_is so =
+    charged_paid 1 (ran program l.instance (body_number program l.site) (callback_locals program.types site l.captured completion)) c d r paid_is enough
+    (so ∙ ap (λ b. ran program l.instance b locals d) body_is ∙ ap (λ (ls : List Value). ran program l.instance (body_number program l.site) ls d) locals_is)
+
+-- ---- while it is live
+
+pub not_live : (birth : ℕ) (go : Listener → Context → Context) (c : Context) → false ≡ is_live (listener_of birth c) → c ≡ with_some (listener_of birth c) go c
+not_live birth go c is = by (listener_of birth c) is
+  where
+    by : (o : Option Listener) → false ≡ is_live o → c ≡ with_some o go c
+    by None h = refl
+    by (Some l) h = absurd (cc)
+
+pub live : (birth : ℕ) (go : Context → Context) (c r : Context) → true ≡ is_live (listener_of birth c) → r ≡ go c → r ≡ with_some (listener_of birth c) (λ l. go) c
+live birth go c r is so = by (listener_of birth c) is
+  where
+    by : (o : Option Listener) → true ≡ is_live o → r ≡ with_some o (λ l. go) c
+    by None h = absurd (cc)
+    by (Some l) h = so
+
+-- ---- each completion
+
+-- one more
+pub called_more : (program : Program) (l : Listener) (site : Site) (xs : List (List Binding)) (k : ℕ) (x : List Binding) (c d : Context) → k < length xs → x ≡ get_or xs k x → d ≡ unless_spent (called_live program l site x) c → called_all program l site (drop (k + 1) xs) d ≡ called_all program l site (drop k xs) c
+called_more program l site xs k x c d lt is so = ap (called_all program l site (drop (k + 1) xs)) so ∙ sym (ap (λ (ys : List (List Binding)). called_all program l site ys c) (next_drop xs k x lt is))
+
+-- what is kept
+pub called_fits : (program : Program) (l : Listener) (site : Site) (x : List Binding) (c d : Context) → Keeps program → ContextFits program c → CallerFits program l site c → CompletionFits program.types site.bound x → d ≡ unless_spent (called_live program l site x) c → ContextFits program d
+called_fits program l site x c d keeps fit caller bound so = subst (ContextFits program) (sym so) (unless_both (ContextFits program) (called_live program l site x) c fit (keeps.called l site x c fit caller bound))
+
+pub called_caller : (program : Program) (l : Listener) (site : Site) (x : List Binding) (c d : Context) → Keeps program → ContextFits program c → CallerFits program l site c → CompletionFits program.types site.bound x → d ≡ unless_spent (called_live program l site x) c → CallerFits program l site d
+called_caller program l site x c d keeps fit caller bound so = subst (CallerFits program l site) (sym so) (unless_both (CallerFits program l site) (called_live program l site x) c caller (keeps.caller l site x c fit caller bound))
+
+-- one of those that fit
+pub one_fits : (types : List EventShape) (bound : List Local) (xs : List (List Binding)) (k : ℕ) (x : List Binding) → CompletionsFit types bound xs → k < length xs → x ≡ get_or xs k x → CompletionFits types bound x
+one_fits types bound xs k x all lt is = subst (CompletionFits types bound) (sym is) (all k x lt)
