@@ -23,7 +23,7 @@ use Rattle.context_meaning.proofs.Settling.{first_falls, settled_empty, settled_
 use Rattle.live_context.specs.Lent.{first_of, rest_of}
 use Rattle.context_steps.specs.Calls.{turned_to}
 use Rattle.context_steps.specs.Steps.{SettlesAs, begun_with}
-use Rattle.context_steps.proofs.Callbacks.{instance_fits}
+use Rattle.context_steps.proofs.Calling.{instance_fits}
 
 -- ---- loads
 

@@ -1,5 +1,5 @@
 mod Common
-pub mod Callbacks
+pub mod Calling
 pub mod Fronts
 pub mod Handled
 pub mod Keeping

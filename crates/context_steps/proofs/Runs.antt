@@ -120,7 +120,7 @@ came program ending number body locals later old mid new l told fuel end can ran
 
 -- what is run where the instance is there
 abbrev run_of : Program → (Instance → End → Context → Context) → Bool → ℕ → List Value → Option Instance → Context → Context
-run_of program behind ending body locals o c = with_some o (λ i d. come behind ending i (act_in program ending body locals i d) d) c
+run_of program behind ending body locals o c = with_some o (λ i d. come program behind ending i (act_in program ending body locals i d) d) c
 
 -- a run and what comes behind it
 pub ran_by : (program : Program) (behind : Instance → End → Context → Context) (ending : Bool) (number body monitor : ℕ) (locals : List Value) (old new last : Context) (end : End) (came : Came program ending number body locals old new monitor end) → last ≡ behind came.found end new → last ≡ run_in program behind ending body locals number old

@@ -18,7 +18,7 @@ use Rattle.context_meaning.proofs.Finding.{find_all, find_passes}
 use Rattle.live_context.specs.Steps.{StepsLive}
 use Rattle.context_steps.specs.Calls.{AtListener, called_in, left, listener_in, nothing_left, taken, turned_to}
 use Rattle.context_steps.specs.declared.callbacks.Called.{Called}
-use Rattle.context_steps.proofs.Callbacks.{charged_paid, charged_spent, paid_both}
+use Rattle.context_steps.proofs.Calling.{charged_paid, charged_spent, paid_both}
 
 some_is : {A : Type 0} (a b : A) → Some a ≡ Some b → a ≡ b
 some_is a b e = cc

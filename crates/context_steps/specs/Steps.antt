@@ -81,7 +81,7 @@ pub record Came (program : Program) (ending : Bool) (number body : ℕ) (locals 
   pub number_is : found.number ≡ number
   pub monitor_is : found.monitor ≡ monitor
   pub end_is : end ≡ (act_in program ending body locals found old).end
-  pub takes : new ≡ with_act number ending (act_in program ending body locals found old) old
+  pub takes : new ≡ with_act program number ending (act_in program ending body locals found old) old
   pub small : InRange new
   pub stands : Stands program number monitor new
 

@@ -6,7 +6,7 @@ ghost use Rattle.term_shapes.specs.Kept.{CompletionFits, CompletionsFit};
 ghost use Rattle.context_meaning.specs.Contexts.{listener_of, paid, unless_spent};
 ghost use Rattle.context_meaning.specs.Fits.{ContextFits};
 ghost use Rattle.context_meaning.specs.Listeners.{bound_from, bound_value, callback_locals};
-ghost use Rattle.context_meaning.specs.Turns.{body_number, called, called_all, called_live};
+ghost use Rattle.context_meaning.specs.Turns.{body_number, called as charged_call, called_all, called_live};
 ghost use Rattle.context_steps.specs.Calls.{called_in, is_live, listener_in};
 ghost use Rattle.context_steps.specs.Steps.{CallerFits, InRange, Keeps};
 
@@ -176,7 +176,7 @@ fn call<R: BodyRunner>(
     requires caller { CallerFits around.now.program.now (listener_in called.now) site.now context.old }
     requires bound { CompletionFits around.now.program.now.types site.now.bound completion.now }
     requires fuel { InRange context.old }
-    ensures means { OnOk result (context.new ≡ called around.now.program.now (listener_in called.now) site.now completion.now context.old) }
+    ensures means { OnOk result (context.new ≡ charged_call around.now.program.now (listener_in called.now) site.now completion.now context.old) }
     ensures small { OnOk result (InRange context.new) }
 {
     if !charge(context, 1) {

@@ -124,7 +124,8 @@ pub fn meet_mark<R: BodyRunner>(
     if !context.has_instances() {
         return Ok(value);
     }
-    if !charge(context, 5) {
+    let enough = charge(context, 5);
+    if !enough {
         return Ok(value);
     }
     let stimulus = Stimulus::Completed(value);
