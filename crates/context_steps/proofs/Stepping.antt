@@ -1,6 +1,7 @@
 -- Steps of listeners, and turns.
-use Rattle.std.proofs.Common.{◌-◌, ◌+◌, ◌<◌, ◌∷◌, ◌≡◌, ◌||◌, drop, get_or, filter, map, not, eqb-true, if◌then◌else◌}
+use Rattle.std.proofs.Common.{◌-◌, ◌+◌, ◌<◌, ◌∷◌, ◌≡◌, ◌||◌, add-one, drop, get_or, filter, map, not, eqb-true, if◌then◌else◌}
 use Rattle.context_steps.proofs.Common.{ℕ, suc, arith, Bool, true, false, cond, List, [], Option, Some, None, slice_get, refl, sym, ap, subst, ◌∙◌, nat_le, find, length, Value, Program, Site, Context, Instance, Listener, behind_charge, paid, with_some, unless_spent, instance_of, listener_of, ContextFits, CallerFits, Keeps}
+use Rattle.std.proofs.Math.Seq.{drop-cons}
 use Rattle.std.proofs.lemmas.List.Elements.{All-filter}
 use Rattle.value_shapes.specs.Fits.{AllFit}
 use Rattle.typed_program.specs.declared.program.Local.{Local}
@@ -186,3 +187,9 @@ module _ (program : Program) where
   -- what fits before a step fits behind it
   pub stepped_fits : (s : Stimulus) (birth : ℕ) (c d : Context) (before after : Bool) → Keeps program → ContextFits program c → HeardFits program.types s → turned_to d after ≡ stepped_born program s birth (turned_to c before) → ContextFits program d
   stepped_fits s birth c d before after keeps fit heard so = subst (ContextFits program) (sym (ap (λ (t : Turned). t.context) so)) (keeps.stepped s birth (turned_to c before) fit heard)
+
+  -- one birth more
+  pub turn_more : (s : Stimulus) (bs : List ℕ) (k : ℕ) (t u : Turned) → k < length bs → u ≡ stepped_born program s (get_or bs k 0) t → turn program s (drop (k + 1) bs) u ≡ turn program s (drop k bs) t
+  turn_more s bs k t u lt so =
+      let next : drop k bs ≡ get_or bs k 0 ∷ drop (k + 1) bs = drop-cons bs k 0 lt ∙ ap (λ n. get_or bs k 0 ∷ drop n bs) (sym (add-one k)) in
+      ap (turn program s (drop (k + 1) bs)) so ∙ sym (ap (λ (xs : List ℕ). turn program s xs t) next)
