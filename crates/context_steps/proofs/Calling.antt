@@ -1,12 +1,10 @@
 -- Callbacks, and what they are charged.
 use Rattle.std.proofs.Common.{◌-◌, ◌+◌, ◌^◌, ◌<◌, ◌∷◌, ◌++◌, ◌≡◌, add-one, drop, get_or, append_assoc}
-use Rattle.context_steps.proofs.Common.{ℕ, suc, Bool, true, false, cond, List, [], Option, Some, None, slice_get, refl, sym, ap, subst, ◌∙◌, arith, nat_le, find, length, Value, Program, Site, Context, Instance, Listener, behind_charge, paid, spend, with_fuel, with_some, unless_spent, is_instance, instance_of, listener_of, ran, ContextFits, CallerFits, CanRunIn, InRange, Keeps}
+use Rattle.context_steps.proofs.Common.{ℕ, suc, Bool, true, false, cond, List, [], Option, Some, None, refl, sym, ap, subst, ◌∙◌, arith, nat_le, length, Value, Program, Site, Context, Instance, Listener, behind_charge, paid, spend, with_fuel, with_some, unless_spent, is_instance, instance_of, listener_of, ran, ContextFits, CallerFits, CanRunIn, InRange, Keeps}
 use Rattle.std.proofs.Math.Seq.{drop-cons}
-use Rattle.std.specs.List.{All}
 use Rattle.epl_values.specs.declared.shape.EventShape.{EventShape}
 use Rattle.typed_program.specs.declared.program.Local.{Local}
 use Rattle.term_meaning.specs.declared.stimulus.Binding.{Binding}
-use Rattle.term_meaning.specs.Operands.{event_of}
 use Rattle.term_shapes.specs.Kept.{CompletionFits, CompletionsFit}
 use Rattle.context_meaning.specs.Fits.{InstanceFits}
 use Rattle.context_meaning.specs.Listeners.{bound_from, bound_value, callback_locals}

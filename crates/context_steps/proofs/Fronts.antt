@@ -1,6 +1,6 @@
 -- Loads, marks, and what waits in front.
-use Rattle.std.proofs.Common.{◌+◌, ◌*◌, ◌-◌, ◌<◌, ◌∷◌, ◌≡◌, ◌++◌, length}
-use Rattle.context_steps.proofs.Common.{ℕ, ℤ, zero, suc, Bool, true, false, cond, List, [], Option, Some, None, slice_get, refl, sym, ap, subst, ◌∙◌, arith, Value, Program, Context, paid, with_some, ran, ContextFits, CanRunIn, Keeps}
+use Rattle.std.proofs.Common.{◌+◌, ◌*◌, ◌<◌, ◌∷◌, ◌≡◌, ◌++◌, length}
+use Rattle.context_steps.proofs.Common.{ℕ, ℤ, true, false, cond, List, [], Some, None, slice_get, refl, sym, ap, subst, ◌∙◌, arith, Value, Program, Context, ran, ContextFits, CanRunIn, Keeps}
 use Rattle.std.specs.List.{All}
 use Rattle.std.specs.Prelude.{◌==◌}
 use Rattle.std.proofs.Common.{eqb-true}
@@ -12,10 +12,10 @@ use Rattle.context_meaning.specs.declared.context.Waiting.TheVariants as waiting
 use Rattle.context_meaning.specs.declared.context.Waiting.{Waiting}
 use Rattle.record_book.specs.Fits.{IsTime}
 use Rattle.term_meaning.specs.declared.stimulus.Stimulus.TheVariants as stimulus
-use Rattle.context_meaning.specs.Contexts.{row_in_front, unless_spent, with_clock, with_front, with_instance}
+use Rattle.context_meaning.specs.Contexts.{row_in_front, with_clock, with_front, with_instance}
 use Rattle.context_meaning.specs.Fits.{InstanceFits, WaitingFits}
 use Rattle.context_meaning.specs.Handling.{cargo_handled, defaults_in, event_turns, first_handled, front_handled, front_weight, load_handled, met, one_turn, settled, thing_handled, timed, unmatched}
-use Rattle.context_meaning.specs.Turns.{Turned, turned}
+use Rattle.context_meaning.specs.Turns.{turned}
 use Rattle.std.proofs.lemmas.List.Elements.{All-head, All-nil, All-tail}
 use Rattle.context_meaning.proofs.Handling.{with_front_fits}
 use Rattle.context_meaning.proofs.Resting.{cargo_row, thing_row}

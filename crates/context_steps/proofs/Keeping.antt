@@ -1,6 +1,6 @@
 -- What naive evaluation of a typed program keeps.
 use Rattle.std.proofs.Common.{◌≡◌}
-use Rattle.context_steps.proofs.Common.{ℕ, List, [], Option, Some, None, slice_get, refl, sym, ap, subst, ◌∙◌, map, Program, Site, Context, ContextFits, Instance, Listener, CallerFits, Keeps}
+use Rattle.context_steps.proofs.Common.{ℕ, [], Option, Some, None, slice_get, refl, sym, ap, subst, ◌∙◌, map, Program, Site, Context, ContextFits, Instance, Listener, CallerFits, Keeps}
 use Rattle.typed_program.specs.Typed.{Typed}
 use Rattle.typed_program.specs.declared.program.Local.{Local}
 use Rattle.typed_program.specs.declared.program.Monitor.{Monitor}
@@ -14,7 +14,7 @@ use Rattle.context_meaning.proofs.Running.{ShapesKept}
 use Rattle.context_meaning.proofs.Turning.{Holds}
 use Rattle.context_meaning.proofs.Kept.{kept_ondie, kept_begun, kept_onload, kept_held_callback, kept_called, kept_listener, kept_left, kept_expression, kept_completions, kept_stepped, kept_thing, kept_cargo}
 use Rattle.context_steps.specs.Calls.{nothing_left}
-use Rattle.context_steps.specs.Steps.{ondie_in, ondie_of}
+use Rattle.context_steps.specs.Steps.{ondie_in}
 
 ondie_keeps : (program : Program) → Typed program → ShapesKept → (i : Instance) (body : ℕ) (o : Option Monitor) → slice_get program.monitors i.monitor ≡ o → ondie_in o ≡ Some body → MayRun program body [] i
 ondie_keeps program typed law i body None there is = absurd (cc)

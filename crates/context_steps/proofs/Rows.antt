@@ -1,6 +1,6 @@
 -- Effects in a row.
 use Rattle.std.proofs.Common.{◌∷◌, ◌++◌, ◌≡◌, ◌≤◌}
-use Rattle.context_steps.proofs.Common.{ℕ, Bool, true, false, cond, List, [], Option, Some, None, length, slice_get, refl, sym, ap, subst, ◌∙◌, Value, Program, Site, Effect, Context, Instance, with_some, apply, apply_all}
+use Rattle.context_steps.proofs.Common.{ℕ, Bool, true, false, cond, List, [], Option, Some, None, length, slice_get, refl, sym, ap, subst, ◌∙◌, Value, Program, Site, Effect, Context, with_some, apply, apply_all}
 use Rattle.std.proofs.lemmas.Option.{slice_get_past}
 use Rattle.action_host.specs.declared.host.Effect.TheVariants as effect
 use Rattle.record_book.specs.Fits.{IsTime}

@@ -1,6 +1,6 @@
 -- Steps of listeners, and turns.
-use Rattle.std.proofs.Common.{◌-◌, ◌+◌, ◌<◌, ◌∷◌, ◌≡◌, ◌||◌, add-one, drop, get_or, filter, map, not, eqb-true, if◌then◌else◌}
-use Rattle.context_steps.proofs.Common.{ℕ, suc, arith, Bool, true, false, cond, List, [], Option, Some, None, slice_get, refl, sym, ap, subst, ◌∙◌, nat_le, find, length, Value, Program, Site, Context, Instance, Listener, behind_charge, paid, with_some, unless_spent, instance_of, listener_of, ContextFits, CallerFits, Keeps}
+use Rattle.std.proofs.Common.{◌-◌, ◌+◌, ◌<◌, ◌∷◌, ◌≡◌, ◌||◌, add-one, drop, get_or, map, not, eqb-true}
+use Rattle.context_steps.proofs.Common.{ℕ, arith, Bool, true, false, cond, List, [], Option, Some, None, slice_get, refl, sym, ap, subst, ◌∙◌, nat_le, find, length, Program, Site, Context, Listener, behind_charge, paid, unless_spent, listener_of, ContextFits, CallerFits, Keeps}
 use Rattle.std.proofs.Math.Seq.{drop-cons}
 use Rattle.std.proofs.lemmas.List.Elements.{All-filter}
 use Rattle.value_shapes.specs.Fits.{AllFit}
@@ -14,7 +14,7 @@ use Rattle.term_shapes.specs.Kept.{CompletionsFit, HeardFits}
 use Rattle.event_terms.specs.declared.state.StepOut.{StepOut}
 use Rattle.context_meaning.specs.Contexts.{is_born, put_expression, with_expression, without_birth}
 use Rattle.context_meaning.specs.Fits.{ListenerFits}
-use Rattle.context_meaning.specs.Turns.{Turned, at_site, called_all, called_live, left_over, step_at, step_taken, stepped, stepped_born, turn}
+use Rattle.context_meaning.specs.Turns.{Turned, at_site, called_all, called_live, step_at, step_taken, stepped, stepped_born, turn}
 use Rattle.context_meaning.proofs.Finding.{find_all, find_passes}
 use Rattle.live_context.specs.Steps.{StepsLive}
 use Rattle.context_steps.specs.Calls.{AtListener, called_in, left, listener_in, nothing_left, taken, turned_to}

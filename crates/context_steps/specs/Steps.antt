@@ -1,6 +1,6 @@
 -- What runs of bodies ask of the context that they run in, and what they come to.
 use Rattle.context_steps.specs.Common.{ℕ, List, [], Some, slice_get, Value, Program, Site, Context, Listener, ContextFits}
-use Rattle.std.specs.Prelude.{◌≡◌, ◌-◌, ◌+◌, ◌<◌, ◌≤◌, ◌^◌, Bool, true, Option, None, map, pos}
+use Rattle.std.specs.Prelude.{◌≡◌, ◌-◌, ◌+◌, ◌<◌, ◌≤◌, ◌^◌, Bool, Option, None, map, pos}
 use Rattle.epl_values.specs.declared.value.Value.TheVariants as value
 use Rattle.typed_program.specs.declared.program.Monitor.{Monitor}
 use Rattle.value_shapes.specs.Fits.{AllFit}

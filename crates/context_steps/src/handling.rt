@@ -131,11 +131,7 @@ fn mark_now<R: BodyRunner>(
 }
 
 /// The row, and then a mark with a copy of the event, stand before what waits.
-fn put_mark(
-    alloc: Global,
-    context: &mut LiveContext,
-    value: Value,
-) -> Result<Value, AllocError>
+fn put_mark(alloc: Global, context: &mut LiveContext, value: Value) -> Result<Value, AllocError>
     requires fuel { InRange context.old }
     ensures means { OnOk result (context.new ≡ row_in_front (waiting.Completed value ∷ []) context.old) }
     ensures gives { IfOk result (λ v. v ≡ value) }

@@ -1,4 +1,3 @@
-use Rattle.std.proofs.lemmas.Result.{on_ok_weaker}
 use Rattle.context_steps.specs.Calls.{listener_in}
 use Rattle.context_steps.proofs.Calling.{can_paid}
 use Rattle.context_steps.proofs.callbacks.call.Goals as goal

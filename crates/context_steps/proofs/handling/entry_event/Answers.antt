@@ -1,5 +1,5 @@
-use Rattle.std.proofs.Common.{sym, ◌∙◌}
-use Rattle.std.proofs.lemmas.Result.{IfOk-weaker, on_ok_weaker}
+use Rattle.std.proofs.Common.{sym}
+use Rattle.std.proofs.lemmas.Result.{on_ok_weaker}
 use Rattle.context_steps.proofs.Fronts.{empty_row, mark_may, settles_event, settles_now}
 use Rattle.context_steps.proofs.handling.entry_event.Goals as goal
 

@@ -1,5 +1,4 @@
 use Rattle.std.proofs.lemmas.Result.{on_ok_weaker}
-use Rattle.context_meaning.proofs.Running.{ShapesKept}
 use Rattle.context_steps.proofs.Handled.{handled_fits, handled_fuel, handled_row, handled_slot}
 use Rattle.context_steps.proofs.Keeping.{keeps_of}
 use Rattle.context_steps.proofs.handling.handle.Goals as goal
