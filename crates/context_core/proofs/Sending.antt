@@ -9,7 +9,7 @@ use Rattle.typed_program.specs.declared.program.Program.{Program}
 use Rattle.record_book.specs.declared.cargo.Cargo.{Cargo}
 use Rattle.record_book.specs.declared.record.Settings.{Settings}
 use Rattle.context_meaning.specs.Contexts.{Context}
-use Rattle.context_meaning.specs.Turns.{handle}
+use Rattle.context_meaning.specs.Handling.{handle}
 use Rattle.naive_meaning.specs.Actors.{slots_of}
 use Rattle.context_core.specs.Cells.{CellPart, part_after}
 

@@ -13,7 +13,7 @@ pub use Rattle.record_book.specs.declared.record.ContextRecord.{ContextRecord}
 pub use Rattle.record_book.specs.declared.record.Record.{Record}
 pub use Rattle.record_book.specs.declared.record.Settings.{Settings}
 pub use Rattle.context_meaning.specs.Contexts.{Context, fresh}
-pub use Rattle.context_meaning.specs.Turns.{handle}
+pub use Rattle.context_meaning.specs.Handling.{handle}
 pub use Rattle.typed_program.specs.declared.program.Program.{Program}
 pub use Rattle.naive_meaning.specs.Actors.{actors_of, item_sends, loads_below, reader_of, slots_of}
 pub use Rattle.naive_meaning.specs.Faithful.{context_sends, entries_of, items_send, log_of, naive, numbers, part_at, received, sends, stamp_of}

@@ -8,7 +8,7 @@ use Rattle.record_book.specs.declared.item.Item.{Item}
 use Rattle.record_book.specs.declared.item.Item.TheVariants as item
 use Rattle.record_book.specs.declared.record.Settings.{Settings}
 use Rattle.context_meaning.specs.Contexts.{fresh}
-use Rattle.context_meaning.specs.Turns.{handle}
+use Rattle.context_meaning.specs.Handling.{handle}
 
 -- each context begins empty with full fuel, handles an entry as its program says, and sends nothing
 abbrev pub slots_of : Program → Settings → Slots Context Cargo

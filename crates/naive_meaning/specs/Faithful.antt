@@ -13,7 +13,7 @@ use Rattle.record_book.specs.declared.record.Settings.{Settings}
 use Rattle.record_book.specs.declared.record.ContextRecord.{ContextRecord}
 use Rattle.record_book.specs.declared.record.Record.{Record}
 use Rattle.context_meaning.specs.Contexts.{fresh}
-use Rattle.context_meaning.specs.Turns.{handle}
+use Rattle.context_meaning.specs.Handling.{handle}
 use Rattle.naive_meaning.specs.Actors.{slots_of, loads_below, item_sends}
 use Rattle.naive_meaning.specs.Records.{IsScheduled}
 
