@@ -90,14 +90,24 @@ impl Cell {
         let Some(number) = self.number.max(entry.stamp).checked_add(1) else {
             return Err(Memory);
         };
-        handle(
+        let Entry {
+            sender,
+            stamp,
+            cargo,
+        } = entry;
+        let cargo = handle(
             &TreeWalker,
             self.alloc,
             program,
             &mut self.context,
             number,
-            &entry.cargo,
+            cargo,
         )?;
+        let entry = Entry {
+            sender,
+            stamp,
+            cargo,
+        };
         self.number = number;
         self.log.push(Handled { entry, number })?;
         if self.context.is_spent() {

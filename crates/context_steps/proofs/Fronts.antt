@@ -1,6 +1,6 @@
 -- Loads, marks, and what waits in front.
-use Rattle.std.proofs.Common.{◌+◌, ◌*◌, ◌-◌, ◌<◌, ◌∷◌, ◌≡◌, ◌++◌, length}
-use Rattle.context_steps.proofs.Common.{ℕ, zero, suc, Bool, true, false, cond, List, [], Option, Some, None, slice_get, refl, sym, ap, subst, ◌∙◌, arith, Value, Program, Context, paid, with_some, ran, ContextFits, CanRunIn, Keeps}
+use Rattle.std.proofs.Common.{◌+◌, ◌*◌, ◌<◌, ◌∷◌, ◌≡◌, ◌++◌, length}
+use Rattle.context_steps.proofs.Common.{ℕ, ℤ, true, false, cond, List, [], Some, None, slice_get, refl, sym, ap, subst, ◌∙◌, arith, Value, Program, Context, ran, ContextFits, CanRunIn, Keeps}
 use Rattle.std.specs.List.{All}
 use Rattle.std.specs.Prelude.{◌==◌}
 use Rattle.std.proofs.Common.{eqb-true}
@@ -10,18 +10,20 @@ use Rattle.record_book.specs.declared.cargo.Cargo.TheVariants as cargo
 use Rattle.record_book.specs.Fits.{CargoFits}
 use Rattle.context_meaning.specs.declared.context.Waiting.TheVariants as waiting
 use Rattle.context_meaning.specs.declared.context.Waiting.{Waiting}
-use Rattle.context_meaning.specs.declared.context.Stimulus.TheVariants as stimulus
-use Rattle.context_meaning.specs.Contexts.{has_instances, row_in_front, with_front, with_instance}
+use Rattle.record_book.specs.Fits.{IsTime}
+use Rattle.term_meaning.specs.declared.stimulus.Stimulus.TheVariants as stimulus
+use Rattle.context_meaning.specs.Contexts.{row_in_front, with_clock, with_front, with_instance}
 use Rattle.context_meaning.specs.Fits.{InstanceFits, WaitingFits}
-use Rattle.context_meaning.specs.Turns.{cargo_handled, defaults_in, first_handled, front_handled, front_weight, loaded, settled, stimulated, thing_handled}
+use Rattle.context_meaning.specs.Handling.{cargo_handled, defaults_in, event_turns, first_handled, front_handled, front_weight, load_handled, met, one_turn, settled, thing_handled, timed, unmatched}
+use Rattle.context_meaning.specs.Turns.{turned}
 use Rattle.std.proofs.lemmas.List.Elements.{All-head, All-nil, All-tail}
 use Rattle.context_meaning.proofs.Handling.{with_front_fits}
-use Rattle.context_meaning.proofs.Marks.{stimulated_completed}
 use Rattle.context_meaning.proofs.Resting.{cargo_row, thing_row}
 use Rattle.context_meaning.proofs.Settling.{first_falls, settled_empty, settled_step}
 use Rattle.live_context.specs.Lent.{first_of, rest_of}
+use Rattle.context_steps.specs.Calls.{turned_to}
 use Rattle.context_steps.specs.Steps.{SettlesAs, begun_with}
-use Rattle.context_steps.proofs.Callbacks.{instance_fits}
+use Rattle.context_steps.proofs.Calling.{instance_fits}
 
 -- ---- loads
 
@@ -46,11 +48,25 @@ load_ran program n m c d r globals locals instance d_is globals_is instance_is n
     ∙ ap (λ (ls : List Value). ran program (c.begun + 1) m.onload ls d) none
     ∙ ap (ran program (c.begun + 1) m.onload []) (d_is ∙ ap (λ (g : List Value). with_instance n g c) globals_is)
 
--- ---- marks
+-- ---- turns of an event
 
--- a mark is charged where there are instances
-pub marked : (program : Program) (e : Value) (b : Bool) (c d : Context) → has_instances c ≡ b → d ≡ cond b (paid 5 c) c → d ≡ stimulated program (stimulus.Completed e) c
-marked program e b c d is so = so ∙ sym (ap (λ x. cond x (paid 5 c) c) is) ∙ sym (stimulated_completed program e c)
+-- where an ordinary template fitted, that is all
+pub turns_fitted : (program : Program) (e : Value) (c d : Context) → turned_to d true ≡ turned program (stimulus.Event e) c → d ≡ event_turns program e c
+turns_fitted program e c d so = ap (unmatched program e) so
+
+-- and in a context that is spent
+pub turns_spent : (program : Program) (e : Value) (c d : Context) → turned_to d false ≡ turned program (stimulus.Event e) c → d.spent ≡ true → d ≡ event_turns program e c
+turns_spent program e c d so is = sym (ap (λ b. cond b d (one_turn program (stimulus.Unmatched e) d)) is) ∙ ap (unmatched program e) so
+
+-- else unmatched ones are tried
+pub turns_unmatched : (program : Program) (e : Value) (c d r : Context) → turned_to d false ≡ turned program (stimulus.Event e) c → d.spent ≡ false → r ≡ one_turn program (stimulus.Unmatched e) d → r ≡ event_turns program e c
+turns_unmatched program e c d r so live last = last ∙ sym (ap (λ b. cond b d (one_turn program (stimulus.Unmatched e) d)) live) ∙ ap (unmatched program e) so
+
+-- ---- the clock
+
+-- a time is set
+pub clock_fits : (program : Program) (now : ℤ) (c d : Context) → IsTime now → ContextFits program c → d ≡ with_clock now c → ContextFits program d
+clock_fits program now c d time fit so = subst (ContextFits program) (sym so) (record { clock = time; instances = fit.instances; listeners = fit.listeners; row = fit.row; front = fit.front })
 
 -- ---- the front
 
@@ -111,7 +127,7 @@ settles_same program load c r keeps fit is so = record {
 }
 
 -- an event, and then its mark behind its row
-pub settles_event : (program : Program) (e v : Value) (c d r : Context) → Keeps program → ContextFits program c → CargoFits program (cargo.Event e) → d ≡ stimulated program (stimulus.Event e) c → v ≡ e → r ≡ row_in_front (waiting.Completed v ∷ []) d → SettlesAs program (cargo.Event e) c r
+pub settles_event : (program : Program) (e v : Value) (c d r : Context) → Keeps program → ContextFits program c → CargoFits program (cargo.Event e) → d ≡ met program (waiting.Event e) c → v ≡ e → r ≡ row_in_front (waiting.Completed v ∷ []) d → SettlesAs program (cargo.Event e) c r
 settles_event program e v c d r keeps fit is d_is v_is so = settles_same program (cargo.Event e) c r keeps fit is (so ∙ ap (λ (x : Value). row_in_front (waiting.Completed x ∷ []) d) v_is ∙ ap (row_in_front (waiting.Completed e ∷ [])) d_is)
 
 -- ---- a mark that comes next
@@ -131,16 +147,32 @@ empty_row (w ∷ ws) h = absurd (omega (arith, eqb-true (length (w ∷ ws)) 0 (s
 at_once_fits : (program : Program) (e : Value) (d : Context) → Keeps program → d.row ≡ [] → WaitingFits program (waiting.Completed e) → ContextFits program (row_in_front (waiting.Completed e ∷ []) d) → ContextFits program (thing_handled program (waiting.Completed e) d)
 at_once_fits program e d keeps empty event =
     subst (λ (row : List Waiting). ContextFits program (row_in_front (waiting.Completed e ∷ []) (record d { row = row })) → ContextFits program (thing_handled program (waiting.Completed e) (record d { row = row }))) (sym empty)
-    (λ fit. keeps.thing (waiting.Completed e) (record d { row = [] }) (record { instances = fit.instances; listeners = fit.listeners; row = All-nil (WaitingFits program); front = All-tail (WaitingFits program) (waiting.Completed e) d.front fit.front }) event)
+    (λ fit. keeps.thing (waiting.Completed e) (record d { row = [] }) (record { clock = fit.clock; instances = fit.instances; listeners = fit.listeners; row = All-nil (WaitingFits program); front = All-tail (WaitingFits program) (waiting.Completed e) d.front fit.front }) event)
+
+-- what was met fits the entry
+met_fits : (program : Program) (e : Value) (c d : Context) → Keeps program → ContextFits program c → CargoFits program (cargo.Event e) → d ≡ met program (waiting.Event e) c → ContextFits program (row_in_front (waiting.Completed e ∷ []) d)
+met_fits program e c d keeps fit is d_is = subst (λ (x : Context). ContextFits program (row_in_front (waiting.Completed e ∷ []) x)) (sym d_is) (keeps.thing (waiting.Event e) c fit is)
 
 -- an event whose row stays empty, and then its mark
-pub settles_now : (program : Program) (e : Value) (c d r : Context) → Keeps program → ContextFits program c → CargoFits program (cargo.Event e) → d ≡ stimulated program (stimulus.Event e) c → d.row ≡ [] → d.spent ≡ false → ((v : Value) → r ≡ row_in_front [] (stimulated program (stimulus.Completed v) d)) → SettlesAs program (cargo.Event e) c r
-settles_now program e c d r keeps fit is d_is empty live so = record {
-  same = ap (settled program) (so e) ∙ at_once program e d empty live ∙ ap (λ (x : Context). settled program (row_in_front (waiting.Completed e ∷ []) x)) d_is;
-  row = ap (λ (x : Context). x.row) (so e);
-  fits = subst (ContextFits program) (sym (so e)) (at_once_fits program e d keeps empty is (subst (λ (x : Context). ContextFits program (row_in_front (waiting.Completed e ∷ []) x)) (sym d_is) (keeps.thing (waiting.Event e) c fit is)));
-}
+pub settles_now : (program : Program) (e v : Value) (c d r : Context) → Keeps program → ContextFits program c → CargoFits program (cargo.Event e) → d ≡ met program (waiting.Event e) c → v ≡ e → d.row ≡ [] → d.spent ≡ false → r ≡ row_in_front [] (met program (waiting.Completed v) d) → SettlesAs program (cargo.Event e) c r
+settles_now program e v c d r keeps fit is d_is v_is empty live so =
+    let r_is : r ≡ thing_handled program (waiting.Completed e) d = so ∙ ap (λ (x : Value). row_in_front [] (met program (waiting.Completed x) d)) v_is in
+    record {
+      same = ap (settled program) r_is ∙ at_once program e d empty live ∙ ap (λ (x : Context). settled program (row_in_front (waiting.Completed e ∷ []) x)) d_is;
+      row = ap (λ (x : Context). x.row) r_is;
+      fits = subst (ContextFits program) (sym r_is) (at_once_fits program e d keeps empty is (met_fits program e c d keeps fit is d_is));
+    }
+
+-- the mark of an event that was met may be met, where the row stays empty
+pub mark_may : (program : Program) (e : Value) (c d : Context) → Keeps program → ContextFits program c → CargoFits program (cargo.Event e) → d ≡ met program (waiting.Event e) c → d.row ≡ [] → ContextFits program d
+mark_may program e c d keeps fit is d_is empty =
+    let f : ContextFits program (row_in_front (waiting.Completed e ∷ []) d) = met_fits program e c d keeps fit is d_is in
+    record { clock = f.clock; instances = f.instances; listeners = f.listeners; row = subst (All (WaitingFits program)) (sym empty) (All-nil (WaitingFits program)); front = subst (λ (row : List Waiting). All (WaitingFits program) (row ++ (waiting.Completed e ∷ []) ++ d.front) → All (WaitingFits program) d.front) (sym empty) (All-tail (WaitingFits program) (waiting.Completed e) d.front) f.front }
 
 -- a load
-pub settles_load : (program : Program) (monitor : ℕ) (c d r : Context) → Keeps program → ContextFits program c → CargoFits program (cargo.Load monitor) → d ≡ loaded program monitor c → r ≡ row_in_front [] d → SettlesAs program (cargo.Load monitor) c r
+pub settles_load : (program : Program) (monitor : ℕ) (c d r : Context) → Keeps program → ContextFits program c → CargoFits program (cargo.Load monitor) → d ≡ load_handled program monitor c → r ≡ row_in_front [] d → SettlesAs program (cargo.Load monitor) c r
 settles_load program monitor c d r keeps fit is d_is so = settles_same program (cargo.Load monitor) c r keeps fit is (so ∙ ap (row_in_front []) d_is)
+
+-- a time
+pub settles_time : (program : Program) (now : ℤ) (c d r : Context) → Keeps program → ContextFits program c → CargoFits program (cargo.Time now) → d ≡ timed program now c → r ≡ row_in_front [] d → SettlesAs program (cargo.Time now) c r
+settles_time program now c d r keeps fit is d_is so = settles_same program (cargo.Time now) c r keeps fit is (so ∙ ap (row_in_front []) d_is)

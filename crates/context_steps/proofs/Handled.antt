@@ -4,12 +4,12 @@ use Rattle.context_steps.proofs.Common.{ℕ, [], sym, ap, subst, ◌∙◌, Prog
 use Rattle.typed_program.specs.Typed.{Typed}
 use Rattle.record_book.specs.declared.cargo.Cargo.{Cargo}
 use Rattle.record_book.specs.Fits.{CargoFits}
-use Rattle.context_meaning.specs.Turns.{handle}
-use Rattle.context_meaning.proofs.Running.{RunsKeepShapes}
+use Rattle.context_meaning.specs.Handling.{handle}
+use Rattle.context_meaning.proofs.Running.{ShapesKept}
 use Rattle.context_meaning.proofs.Handling.{handle_fits}
 use Rattle.context_meaning.proofs.Resting.{handle_fuel, handle_row, handle_slot}
 
-pub handled_fits : (program : Program) → Typed program → RunsKeepShapes → (c d : Context) (number : ℕ) (load : Cargo) → CargoFits program load → ContextFits program c → d ≡ handle program c number load → ContextFits program d
+pub handled_fits : (program : Program) → Typed program → ShapesKept → (c d : Context) (number : ℕ) (load : Cargo) → CargoFits program load → ContextFits program c → d ≡ handle program c number load → ContextFits program d
 handled_fits program typed law c d number load is fit so = subst (ContextFits program) (sym so) (handle_fits program typed law c number load is fit)
 
 pub handled_row : (program : Program) (c d : Context) (number : ℕ) (load : Cargo) → d ≡ handle program c number load → c.row ≡ [] → d.row ≡ []

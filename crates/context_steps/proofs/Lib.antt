@@ -1,8 +1,8 @@
 mod Common
-pub mod Bounds
-pub mod Callbacks
+pub mod Calling
 pub mod Fronts
 pub mod Handled
 pub mod Keeping
 pub mod Rows
 pub mod Runs
+pub mod Stepping

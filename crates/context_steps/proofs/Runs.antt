@@ -1,6 +1,6 @@
 -- Runs of bodies in instances.
 use Rattle.std.proofs.Common.{◌-◌, ◌<◌, ◌≤◌, ◌++◌, ◌∷◌, ◌≡◌, ◌^◌}
-use Rattle.context_steps.proofs.Common.{ℕ, Bool, true, false, cond, List, [], Option, Some, None, slice_get, refl, sym, ap, subst, ◌∙◌, find, Value, Program, GlobalsFit, End, Act, Context, Instance, is_instance, instance_of, put_globals, with_globals, with_fuel, with_some, apply_all, act_in, with_act, run_in, last_run, finished, fault_line, idle, CanRunIn, Keeps}
+use Rattle.context_steps.proofs.Common.{ℕ, Bool, true, false, cond, List, [], Option, Some, None, slice_get, refl, sym, ap, subst, ◌∙◌, find, Value, Program, GlobalsFit, End, Act, Context, Instance, is_instance, instance_of, put_globals, with_globals, with_fuel, with_some, apply_all, act_in, with_act, run_in, last_run, finished, fault_line, idle, CanRunIn, ContextFits, InRange, Keeps}
 use Rattle.typed_runs.specs.Bodies.{head_of, HeadFits, BodyFits, StillFit}
 use Rattle.typed_program.specs.declared.program.Monitor.{Monitor}
 use Rattle.action_host.specs.declared.host.End.TheVariants as end
@@ -8,10 +8,12 @@ use Rattle.action_host.specs.Scenes.{Scene}
 use Rattle.action_host.specs.Told.{Told}
 use Rattle.body_meaning.specs.Acts.{act_of}
 use Rattle.body_runs.specs.Comes.{Comes}
+use Rattle.record_book.specs.Fits.{IsTime}
 use Rattle.context_meaning.specs.Contexts.{scene_of}
-use Rattle.context_meaning.specs.Ends.{come, dying, ended}
-use Rattle.context_meaning.specs.Fits.{MayRun}
-use Rattle.context_meaning.proofs.Finding.{number_is}
+use Rattle.context_meaning.specs.Ends.{come, dying, ended, idle_in}
+use Rattle.context_meaning.specs.Fits.{InstanceFits, MayRun}
+use Rattle.context_meaning.proofs.Finding.{find_all, number_is}
+use Rattle.std.specs.Option.{option_map}
 use Rattle.live_context.specs.Lent.{lent}
 use Rattle.live_context.specs.declared.lent.Lent.{Lent}
 use Rattle.live_context.proofs.Places.{missing_put}
@@ -55,6 +57,10 @@ lends_begun program number body locals c d l can is same =
     let old : number ≤ c.begun = subst (λ n. n ≤ c.begun) (number_is number c.instances i.0 i.1) (can i.0 i.1).number in
     subst (λ n. number ≤ n) (sym same) old
 
+-- the clock stays
+pub lends_time : (c d : Context) → InRange c → d.clock ≡ c.clock → IsTime d.clock
+lends_time c d h same = subst IsTime (sym same) h.clock
+
 -- the context between the run and its effects
 pub between : (number fuel : ℕ) (later : List Value) (c lending back d : Context) → lending ≡ with_globals number [] c → back ≡ with_globals number later lending → d ≡ with_fuel fuel back → d ≡ with_fuel fuel (with_globals number later c)
 between number fuel later c lending back d lending_is back_is d_is = d_is ∙ ap (with_fuel fuel) (back_is ∙ ap (with_globals number later) lending_is ∙ put_back number later c)
@@ -84,18 +90,19 @@ found_put number globals f (x ∷ xs) is = go (found_put number globals f xs) (i
 
 -- a run over globals that were lent
 pub came : (program : Program) (ending : Bool) (number body : ℕ) (locals later : List Value) (old mid new : Context) (l : Lent) (told : Told) (fuel : ℕ) (end : End) →
-    CanRunIn program number body locals old → Some l ≡ lent (instance_of number old) → told.drawn ≡ [] → told.scene.fuel ≡ fuel → fuel < 2 ^ 64 - 1 →
+    CanRunIn program number body locals old → InRange old → Some l ≡ lent (instance_of number old) → told.drawn ≡ [] → told.scene.fuel ≡ fuel → fuel < 2 ^ 64 - 1 →
     Comes program body l.globals locals (told_first (scene_of ending old)) told later end → StillFit program later (head_of program body) →
-    mid ≡ with_fuel fuel (with_globals number later old) → new ≡ apply_all number ending told.taken mid →
+    mid ≡ with_fuel fuel (with_globals number later old) → new ≡ apply_all program number ending told.taken mid →
     Came program ending number body locals old new l.monitor end
-came program ending number body locals later old mid new l told fuel end can is none fuel_is small comes still mid_is new_is =
+came program ending number body locals later old mid new l told fuel end can ranges is none fuel_is small comes still mid_is new_is =
     let i = lends (instance_of number old) l is in
     let runs : CanRun program body locals old.begun i.0 = can i.0 i.1 in
     let monitor_is : i.0.monitor ≡ l.monitor = sym (ap (λ (m : Lent). m.monitor) i.2) in
     let act : act_of program body i.0.globals locals (scene_of ending old) [] ≡ record { globals = later; effects = told.taken; end = end; scene = told.scene; draws = [] } = sym (ap (λ (m : Lent). act_of program body m.globals locals (scene_of ending old) []) i.2) ∙ acted program body l.globals locals later (scene_of ending old) told end none comes in
-    let rests : Rests mid (apply_all number ending told.taken mid) = apply_all_rests number ending told.taken mid in
+    let rests : Rests mid (apply_all program number ending told.taken mid) = apply_all_rests program number ending told.taken mid in
     let new_fuel : new.fuel ≡ fuel = ap (λ (c : Context). c.fuel) new_is ∙ rests.fuel ∙ ap (λ (c : Context). c.fuel) mid_is in
     let new_begun : new.begun ≡ old.begun = ap (λ (c : Context). c.begun) new_is ∙ rests.begun ∙ ap (λ (c : Context). c.begun) mid_is in
+    let new_clock : new.clock ≡ old.clock = ap (λ (c : Context). c.clock) new_is ∙ rests.clock ∙ ap (λ (c : Context). c.clock) mid_is in
     let new_instances : new.instances ≡ put_globals number later old.instances = ap (λ (c : Context). c.instances) new_is ∙ rests.instances ∙ ap (λ (c : Context). c.instances) mid_is in
     let lives : find (is_instance number) new.instances ≡ Some (record i.0 { globals = later }) = ap (find (is_instance number)) new_instances ∙ found_put number later i.0 old.instances i.1 in
     let fits : GlobalsFit program l.monitor later = subst (λ m. GlobalsFit program m later) monitor_is (still_fit program body locals later i.0 runs.may still) in
@@ -106,14 +113,14 @@ came program ending number body locals later old mid new l told fuel end can is 
       number_is = number_is number old.instances i.0 i.1;
       monitor_is = monitor_is;
       end_is = sym (ap (λ (a : Act). a.end) act);
-      takes = new_is ∙ ap (apply_all number ending told.taken) mid_is ∙ ap (λ f. apply_all number ending told.taken (with_fuel f (with_globals number later old))) (sym fuel_is) ∙ sym (ap (λ (a : Act). with_act number ending a old) act);
-      small = subst (λ n. n < 2 ^ 64 - 1) (sym new_fuel) small;
+      takes = new_is ∙ ap (apply_all program number ending told.taken) mid_is ∙ ap (λ f. apply_all program number ending told.taken (with_fuel f (with_globals number later old))) (sym fuel_is) ∙ sym (ap (λ (a : Act). with_act program number ending a old) act);
+      small = record { fuel = subst (λ n. n < 2 ^ 64 - 1) (sym new_fuel) small; clock = subst IsTime (sym new_clock) ranges.clock };
       stands = λ j there. let same : record i.0 { globals = later } ≡ j = some_same (record i.0 { globals = later }) j (sym lives ∙ there) in subst (λ (k : Instance). (k.monitor ≡ l.monitor) × GlobalsFit program l.monitor k.globals × (k.number ≤ new.begun)) same (monitor_is, fits, begun);
     }
 
 -- what is run where the instance is there
 abbrev run_of : Program → (Instance → End → Context → Context) → Bool → ℕ → List Value → Option Instance → Context → Context
-run_of program behind ending body locals o c = with_some o (λ i d. come behind ending i (act_in program ending body locals i d) d) c
+run_of program behind ending body locals o c = with_some o (λ i d. come program behind ending i (act_in program ending body locals i d) d) c
 
 -- a run and what comes behind it
 pub ran_by : (program : Program) (behind : Instance → End → Context → Context) (ending : Bool) (number body monitor : ℕ) (locals : List Value) (old new last : Context) (end : End) (came : Came program ending number body locals old new monitor end) → last ≡ behind came.found end new → last ≡ run_in program behind ending body locals number old
@@ -121,7 +128,7 @@ ran_by program behind ending number body monitor locals old new last end came so
     so
     ∙ ap (λ e. behind came.found e new) came.end_is
     ∙ ap (behind came.found (act_in program ending body locals came.found old).end) came.takes
-    ∙ ap (λ n. behind came.found (act_in program ending body locals came.found old).end (with_act n ending (act_in program ending body locals came.found old) old)) (sym came.number_is)
+    ∙ ap (λ n. behind came.found (act_in program ending body locals came.found old).end (with_act program n ending (act_in program ending body locals came.found old) old)) (sym came.number_is)
     ∙ sym (ap (λ (o : Option Instance). run_of program behind ending body locals o old) came.is)
 
 -- no instance
@@ -182,3 +189,33 @@ pub stands_on : (program : Program) (number monitor : ℕ) (c d : Context) → d
 stands_on program number monitor c d same begun stands = λ i there.
     let s : (i.monitor ≡ monitor) × GlobalsFit program monitor i.globals × (i.number ≤ c.begun) = stands i (ap (find (is_instance number)) (sym same) ∙ there) in
     (s.0, s.1, subst (λ n. i.number ≤ n) (sym begun) s.2)
+
+-- ---- an instance without a live listener
+
+-- how it ends depends on its number and its monitor
+idle_as : (program : Program) (i : Instance) (number monitor : ℕ) (c : Context) → number ≡ i.number → monitor ≡ i.monitor → idle program (numbered number monitor) c ≡ idle program i c
+idle_as program i number monitor c is same = both_same (λ n m. idle program (numbered n m) c) number monitor i.number i.monitor is same
+
+-- where it isn't there, nothing ends
+pub idle_none : (program : Program) (number : ℕ) (c : Context) → None ≡ option_map (λ (i : Instance). i.monitor) (instance_of number c) → c ≡ idle_in program number c
+idle_none program number c is = by (instance_of number c) is
+  where
+    by : (o : Option Instance) → None ≡ option_map (λ (i : Instance). i.monitor) o → c ≡ with_some o (idle program) c
+    by None h = refl
+    by (Some i) h = absurd (cc)
+
+-- where it is there, it ends
+pub idle_some : (program : Program) (number monitor : ℕ) (c r : Context) → Some monitor ≡ option_map (λ (i : Instance). i.monitor) (instance_of number c) → r ≡ idle program (numbered number monitor) c → r ≡ idle_in program number c
+idle_some program number monitor c r is so = so ∙ by (instance_of number c) refl is
+  where
+    by : (o : Option Instance) → instance_of number c ≡ o → Some monitor ≡ option_map (λ (i : Instance). i.monitor) o → idle program (numbered number monitor) c ≡ with_some o (idle program) c
+    by None there h = absurd (cc)
+    by (Some i) there h = let same : monitor ≡ i.monitor = cc in idle_as program i number monitor c (sym (number_is number c.instances i there)) same
+
+-- it stands there
+pub stands_in : (program : Program) (number monitor : ℕ) (c : Context) → ContextFits program c → Some monitor ≡ option_map (λ (i : Instance). i.monitor) (instance_of number c) → Stands program number monitor c
+stands_in program number monitor c fit is = λ i there.
+    let fits : InstanceFits program c.begun i = find_all (InstanceFits program c.begun) (is_instance number) c.instances i fit.instances there in
+    let found : Some monitor ≡ Some i.monitor = is ∙ ap (option_map (λ (j : Instance). j.monitor)) there in
+    let same : i.monitor ≡ monitor = cc in
+    (same, subst (λ m. GlobalsFit program m i.globals) same fits.globals, fits.number)

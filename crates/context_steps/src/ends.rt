@@ -2,8 +2,9 @@ ghost use Rattle.std.specs.Prelude.{◌≡◌, [], true, false, IfOk, OnOk};
 ghost use Rattle.plain_host.specs.Told.{told_of};
 ghost use Rattle.typed_program.specs.Typed.{Typed};
 ghost use Rattle.context_meaning.specs.Contexts.{scene_of};
-ghost use Rattle.context_meaning.specs.Ends.{run_in, fault_line, last_run, dying, ended, idle, finished, ran};
-ghost use Rattle.context_steps.specs.Steps.{numbered, ondie_of, CanRunIn, Stands, IsSmall, CameIn, Keeps, told_first};
+ghost use Rattle.context_meaning.specs.Ends.{run_in, fault_line, last_run, dying, ended, idle, idle_in, finished, ran};
+ghost use Rattle.context_meaning.specs.Fits.{ContextFits};
+ghost use Rattle.context_steps.specs.Steps.{numbered, ondie_of, CanRunIn, Stands, InRange, CameIn, Keeps, told_first};
 
 use crate::around::Around;
 use crate::effects::apply_all;
@@ -27,7 +28,7 @@ pub struct Ran {
 
 /// The host of a run in a context.
 fn host_of(alloc: Global, context: &LiveContext, ending: bool) -> PlainHost
-    requires { IsSmall context.now }
+    requires { InRange context.now }
     ensures { told_of result ≡ told_first (scene_of ending context.now) }
 {
     PlainHost {
@@ -56,7 +57,7 @@ fn run_in<R: BodyRunner>(
     requires serves { R.serves around.now.runner.now around.now.program.now }
     requires typed { Typed around.now.program.now }
     requires runs { CanRunIn around.now.program.now number body locals context.old }
-    requires fuel { IsSmall context.old }
+    requires fuel { InRange context.old }
     ensures { IfOk result (CameIn around.now.program.now ending number body locals context.old context.new) }
 {
     let Some(lent) = context.lend(number) else {
@@ -78,7 +79,7 @@ fn run_in<R: BodyRunner>(
     context.put_back(number, globals);
     let PlainHost { fuel, taken, .. } = host;
     context.set_fuel(fuel);
-    apply_all(context, number, ending, taken)?;
+    apply_all(context, around.program, number, ending, taken)?;
     Ok(Some(Ran { monitor, end }))
 }
 
@@ -103,9 +104,9 @@ fn last_run(
     monitor: u16,
     end: End,
 ) -> Result<(), AllocError>
-    requires fuel { IsSmall context.old }
+    requires fuel { InRange context.old }
     ensures means { OnOk result (context.new ≡ last_run program.now (numbered 0 monitor) end context.old) }
-    ensures small { OnOk result (IsSmall context.new) }
+    ensures small { OnOk result (InRange context.new) }
 {
     match end {
         End::Done(_value) => Ok(()),
@@ -138,9 +139,9 @@ fn run_ondie<R: BodyRunner>(
     requires serves { R.serves around.now.runner.now around.now.program.now }
     requires typed { Typed around.now.program.now }
     requires runs { CanRunIn around.now.program.now number body [] context.old }
-    requires fuel { IsSmall context.old }
+    requires fuel { InRange context.old }
     ensures means { OnOk result (context.new ≡ run_in around.now.program.now (last_run around.now.program.now) true body [] number context.old) }
-    ensures small { OnOk result (IsSmall context.new) }
+    ensures small { OnOk result (InRange context.new) }
 {
     let locals = List::new(around.alloc);
     match run_in(around, context, number, true, body, locals)? {
@@ -160,9 +161,9 @@ fn die<R: BodyRunner>(
     requires typed { Typed around.now.program.now }
     requires keeps { Keeps around.now.program.now }
     requires stands { Stands around.now.program.now number monitor context.old }
-    requires fuel { IsSmall context.old }
+    requires fuel { InRange context.old }
     ensures means { OnOk result (context.new ≡ dying around.now.program.now (numbered number monitor) context.old) }
-    ensures small { OnOk result (IsSmall context.new) }
+    ensures small { OnOk result (InRange context.new) }
 {
     match ondie_of(around.program, monitor) {
         None => Ok(()),
@@ -181,9 +182,9 @@ fn end_instance<R: BodyRunner>(
     requires typed { Typed around.now.program.now }
     requires keeps { Keeps around.now.program.now }
     requires stands { Stands around.now.program.now number monitor context.old }
-    requires fuel { IsSmall context.old }
+    requires fuel { InRange context.old }
     ensures means { OnOk result (context.new ≡ ended around.now.program.now (numbered number monitor) context.old) }
-    ensures small { OnOk result (IsSmall context.new) }
+    ensures small { OnOk result (InRange context.new) }
 {
     context.quit_all(number);
     die(around, context, number, monitor)?;
@@ -204,14 +205,34 @@ fn end_if_idle<R: BodyRunner>(
     requires typed { Typed around.now.program.now }
     requires keeps { Keeps around.now.program.now }
     requires stands { Stands around.now.program.now number monitor context.old }
-    requires fuel { IsSmall context.old }
+    requires fuel { InRange context.old }
     ensures means { OnOk result (context.new ≡ idle around.now.program.now (numbered number monitor) context.old) }
-    ensures small { OnOk result (IsSmall context.new) }
+    ensures small { OnOk result (InRange context.new) }
 {
     if context.is_busy(number) {
         return Ok(());
     }
     end_instance(around, context, number, monitor)
+}
+
+/// The same of the instance with this number, where it is there.
+pub fn end_where_idle<R: BodyRunner>(
+    around: &Around<'_, R>,
+    context: &mut LiveContext,
+    number: u64,
+) -> Result<(), AllocError>
+    requires serves { R.serves around.now.runner.now around.now.program.now }
+    requires typed { Typed around.now.program.now }
+    requires keeps { Keeps around.now.program.now }
+    requires fits { ContextFits around.now.program.now context.old }
+    requires fuel { InRange context.old }
+    ensures means { OnOk result (context.new ≡ idle_in around.now.program.now number context.old) }
+    ensures small { OnOk result (InRange context.new) }
+{
+    match context.monitor_of(number) {
+        None => Ok(()),
+        Some(monitor) => end_if_idle(around, context, number, monitor),
+    }
 }
 
 /// A fault prints its line, and ends its instance.
@@ -226,9 +247,9 @@ fn end_by_fault<R: BodyRunner>(
     requires typed { Typed around.now.program.now }
     requires keeps { Keeps around.now.program.now }
     requires stands { Stands around.now.program.now number monitor context.old }
-    requires fuel { IsSmall context.old }
+    requires fuel { InRange context.old }
     ensures means { OnOk result (context.new ≡ ended around.now.program.now (numbered number monitor) (fault_line around.now.program.now (numbered number monitor) fault context.old)) }
-    ensures small { OnOk result (IsSmall context.new) }
+    ensures small { OnOk result (InRange context.new) }
 {
     fault_line(around.program, context, monitor, fault)?;
     end_instance(around, context, number, monitor)
@@ -246,9 +267,9 @@ fn finish<R: BodyRunner>(
     requires typed { Typed around.now.program.now }
     requires keeps { Keeps around.now.program.now }
     requires stands { Stands around.now.program.now number monitor context.old }
-    requires fuel { IsSmall context.old }
+    requires fuel { InRange context.old }
     ensures means { OnOk result (context.new ≡ finished around.now.program.now (numbered number monitor) end context.old) }
-    ensures small { OnOk result (IsSmall context.new) }
+    ensures small { OnOk result (InRange context.new) }
 {
     match end {
         End::Done(_value) => end_if_idle(around, context, number, monitor),
@@ -273,9 +294,9 @@ pub fn run<R: BodyRunner>(
     requires typed { Typed around.now.program.now }
     requires keeps { Keeps around.now.program.now }
     requires runs { CanRunIn around.now.program.now number body locals context.old }
-    requires fuel { IsSmall context.old }
+    requires fuel { InRange context.old }
     ensures means { OnOk result (context.new ≡ ran around.now.program.now number body locals context.old) }
-    ensures small { OnOk result (IsSmall context.new) }
+    ensures small { OnOk result (InRange context.new) }
 {
     match run_in(around, context, number, false, body, locals)? {
         None => Ok(()),

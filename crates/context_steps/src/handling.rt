@@ -4,24 +4,25 @@ ghost use Rattle.epl_values.specs.declared.value.Value.{Value, out-Value};
 ghost use Rattle.typed_program.specs.Typed.{Typed};
 ghost use Rattle.value_rules.specs.Defaults.{default_of};
 ghost use Rattle.value_shapes.specs.Fits.{IsEvent};
-ghost use Rattle.context_meaning.specs.declared.context.Stimulus.TheVariants as stimulus;
 ghost use Rattle.context_meaning.specs.declared.context.Waiting.TheVariants as waiting;
 ghost use Rattle.record_book.specs.declared.cargo.Cargo.TheVariants as load;
-ghost use Rattle.context_meaning.specs.Turns.{stimulated, loaded, thing_handled, cargo_handled, settled, handle};
+ghost use Rattle.context_meaning.specs.Handling.{cargo_handled, handle, load_handled, met, settled};
 ghost use Rattle.context_meaning.specs.Contexts.{row_in_front};
-ghost use Rattle.context_meaning.specs.Fits.{ContextFits, WaitingFits};
-ghost use Rattle.record_book.specs.Fits.{CargoFits};
-ghost use Rattle.context_steps.specs.Steps.{IsSmall, Keeps, begun_with, SettlesAs};
+ghost use Rattle.context_meaning.specs.Fits.{ContextFits};
+ghost use Rattle.record_book.specs.Fits.{CargoFits, IsTime};
+ghost use Rattle.context_steps.specs.Steps.{InRange, Keeps, begun_with, SettlesAs};
 
 use crate::around::Around;
+use crate::callbacks::charge;
 use crate::ends::run;
-use crate::turns::{charge, turn};
+use crate::things::{meet_event, meet_mark, meet_time, thing};
 use body_runs::BodyRunner;
 use context_meaning::{Waiting, front_settles};
 use epl_values::{EventShapes, List, Value, Values, copy};
 use live_context::LiveContext;
 use record_book::Cargo;
 use std::alloc::{AllocError, Global};
+use term_shapes::expressions_keep_shapes;
 use typed_program::{Global as Variable, Monitor, Program};
 use typed_runs::runs_keep_shapes;
 use value_rules::default_of;
@@ -58,9 +59,9 @@ fn begin_monitor<R: BodyRunner>(
     requires keeps { Keeps around.now.program.now }
     requires fits { ContextFits around.now.program.now context.old }
     requires there { slice_get around.now.program.now.monitors number ≡ Some monitor.now }
-    requires fuel { IsSmall context.old }
+    requires fuel { InRange context.old }
     ensures means { OnOk result (context.new ≡ begun_with around.now.program.now number monitor.now context.old) }
-    ensures small { OnOk result (IsSmall context.new) }
+    ensures small { OnOk result (InRange context.new) }
 {
     let globals = defaults_of(
         around.alloc,
@@ -93,9 +94,9 @@ fn load<R: BodyRunner>(
     requires typed { Typed around.now.program.now }
     requires keeps { Keeps around.now.program.now }
     requires fits { ContextFits around.now.program.now context.old }
-    requires fuel { IsSmall context.old }
-    ensures means { OnOk result (context.new ≡ loaded around.now.program.now monitor context.old) }
-    ensures small { OnOk result (IsSmall context.new) }
+    requires fuel { InRange context.old }
+    ensures means { OnOk result (context.new ≡ load_handled around.now.program.now monitor context.old) }
+    ensures small { OnOk result (InRange context.new) }
 {
     if !charge(context, 5) {
         return Ok(());
@@ -106,113 +107,63 @@ fn load<R: BodyRunner>(
     }
 }
 
-// ---- events and their marks
-
-/// The live listeners are stepped with an event, which is charged; without an instance nothing is done.
-fn event<R: BodyRunner>(
-    around: &Around<'_, R>,
-    context: &mut LiveContext,
-    event: &Value,
-) -> Result<(), AllocError>
-    requires serves { R.serves around.now.runner.now around.now.program.now }
-    requires typed { Typed around.now.program.now }
-    requires keeps { Keeps around.now.program.now }
-    requires fits { ContextFits around.now.program.now context.old }
-    requires event { IsEvent around.now.program.now.types event.now (out-Value event.now) }
-    requires fuel { IsSmall context.old }
-    ensures means { OnOk result (context.new ≡ stimulated around.now.program.now (stimulus.Event event.now) context.old) }
-    ensures small { OnOk result (IsSmall context.new) }
-{
-    if !context.has_instances() {
-        return Ok(());
-    }
-    if !charge(context, 5) {
-        return Ok(());
-    }
-    turn(around, context, event)
-}
-
-/// The live listeners are stepped with the mark of an event, which completes none of them; that is charged all the same.
-fn mark(program: &Program, context: &mut LiveContext)
-    requires fuel { IsSmall context.old }
-    ensures means { (e : Value) → context.new ≡ stimulated program.now (stimulus.Completed e) context.old }
-    ensures small { IsSmall context.new }
-{
-    if context.has_instances() {
-        let _enough = charge(context, 5);
-    }
-}
-
-/// A thing is handled; what it put in the row, and its mark, stand before what waits.
-fn thing<R: BodyRunner>(
-    around: &Around<'_, R>,
-    context: &mut LiveContext,
-    thing: Waiting,
-) -> Result<(), AllocError>
-    requires serves { R.serves around.now.runner.now around.now.program.now }
-    requires typed { Typed around.now.program.now }
-    requires keeps { Keeps around.now.program.now }
-    requires fits { ContextFits around.now.program.now context.old }
-    requires thing { WaitingFits around.now.program.now thing }
-    requires fuel { IsSmall context.old }
-    ensures means { OnOk result (context.new ≡ thing_handled around.now.program.now thing context.old) }
-    ensures small { OnOk result (IsSmall context.new) }
-{
-    match thing {
-        Waiting::Event(value) => {
-            event(around, context, &value)?;
-            context.put_in_front(Some(Waiting::Completed(value)))
-        }
-        Waiting::Completed(_value) => {
-            mark(around.program, context);
-            context.put_in_front(None)
-        }
-    }
-}
-
 // ---- an entry
 
 /// The mark of an event comes next, and is handled at once.
-fn mark_now(program: &Program, context: &mut LiveContext) -> Result<(), AllocError>
-    requires fuel { IsSmall context.old }
-    ensures means { OnOk result ((e : Value) → context.new ≡ row_in_front [] (stimulated program.now (stimulus.Completed e) context.old)) }
-    ensures small { OnOk result (IsSmall context.new) }
+fn mark_now<R: BodyRunner>(
+    around: &Around<'_, R>,
+    context: &mut LiveContext,
+    value: Value,
+) -> Result<Value, AllocError>
+    requires serves { R.serves around.now.runner.now around.now.program.now }
+    requires typed { Typed around.now.program.now }
+    requires keeps { Keeps around.now.program.now }
+    requires fits { ContextFits around.now.program.now context.old }
+    requires event { IsEvent around.now.program.now.types value (out-Value value) }
+    requires fuel { InRange context.old }
+    ensures means { OnOk result (context.new ≡ row_in_front [] (met around.now.program.now (waiting.Completed value) context.old)) }
+    ensures gives { IfOk result (λ v. v ≡ value) }
+    ensures small { OnOk result (InRange context.new) }
 {
-    mark(program, context);
-    context.put_in_front(None)
+    let value = meet_mark(around, context, value)?;
+    context.put_in_front(None)?;
+    Ok(value)
 }
 
 /// The row, and then a mark with a copy of the event, stand before what waits.
-fn put_mark(alloc: Global, context: &mut LiveContext, value: &Value) -> Result<(), AllocError>
-    requires fuel { IsSmall context.old }
-    ensures means { OnOk result (context.new ≡ row_in_front (waiting.Completed value.now ∷ []) context.old) }
-    ensures small { OnOk result (IsSmall context.new) }
+fn put_mark(alloc: Global, context: &mut LiveContext, value: Value) -> Result<Value, AllocError>
+    requires fuel { InRange context.old }
+    ensures means { OnOk result (context.new ≡ row_in_front (waiting.Completed value ∷ []) context.old) }
+    ensures gives { IfOk result (λ v. v ≡ value) }
+    ensures small { OnOk result (InRange context.new) }
 {
-    let completed = copy(alloc, value)?;
-    context.put_in_front(Some(Waiting::Completed(completed)))
+    let completed = copy(alloc, &value)?;
+    context.put_in_front(Some(Waiting::Completed(completed)))?;
+    Ok(value)
 }
 
 /// The event of an entry is handled. Where nothing was put in the row its mark comes next, and is handled at once.
 fn entry_event<R: BodyRunner>(
     around: &Around<'_, R>,
     context: &mut LiveContext,
-    value: &Value,
-) -> Result<(), AllocError>
+    value: Value,
+) -> Result<Value, AllocError>
     requires serves { R.serves around.now.runner.now around.now.program.now }
     requires typed { Typed around.now.program.now }
     requires keeps { Keeps around.now.program.now }
     requires fits { ContextFits around.now.program.now context.old }
-    requires event { IsEvent around.now.program.now.types value.now (out-Value value.now) }
-    requires fuel { IsSmall context.old }
-    ensures means { OnOk result (SettlesAs around.now.program.now (load.Event value.now) context.old context.new) }
-    ensures small { OnOk result (IsSmall context.new) }
+    requires event { IsEvent around.now.program.now.types value (out-Value value) }
+    requires fuel { InRange context.old }
+    ensures means { OnOk result (SettlesAs around.now.program.now (load.Event value) context.old context.new) }
+    ensures gives { IfOk result (λ v. v ≡ value) }
+    ensures small { OnOk result (InRange context.new) }
 {
-    event(around, context, value)?;
+    let value = meet_event(around, context, value)?;
     if context.is_spent() {
         return put_mark(around.alloc, context, value);
     }
     if context.is_row_empty() {
-        mark_now(around.program, context)
+        mark_now(around, context, value)
     } else {
         put_mark(around.alloc, context, value)
     }
@@ -229,11 +180,30 @@ fn entry_load<R: BodyRunner>(
     requires keeps { Keeps around.now.program.now }
     requires fits { ContextFits around.now.program.now context.old }
     requires there { monitor < length around.now.program.now.monitors }
-    requires fuel { IsSmall context.old }
+    requires fuel { InRange context.old }
     ensures means { OnOk result (SettlesAs around.now.program.now (load.Load monitor) context.old context.new) }
-    ensures small { OnOk result (IsSmall context.new) }
+    ensures small { OnOk result (InRange context.new) }
 {
     load(around, context, monitor)?;
+    context.put_in_front(None)
+}
+
+/// A time is handled.
+fn entry_time<R: BodyRunner>(
+    around: &Around<'_, R>,
+    context: &mut LiveContext,
+    now: i128,
+) -> Result<(), AllocError>
+    requires serves { R.serves around.now.runner.now around.now.program.now }
+    requires typed { Typed around.now.program.now }
+    requires keeps { Keeps around.now.program.now }
+    requires fits { ContextFits around.now.program.now context.old }
+    requires time { IsTime now }
+    requires fuel { InRange context.old }
+    ensures means { OnOk result (SettlesAs around.now.program.now (load.Time now) context.old context.new) }
+    ensures small { OnOk result (InRange context.new) }
+{
+    meet_time(around, context, now)?;
     context.put_in_front(None)
 }
 
@@ -241,20 +211,31 @@ fn entry_load<R: BodyRunner>(
 fn entry<R: BodyRunner>(
     around: &Around<'_, R>,
     context: &mut LiveContext,
-    cargo: &Cargo,
-) -> Result<(), AllocError>
+    cargo: Cargo,
+) -> Result<Cargo, AllocError>
     requires serves { R.serves around.now.runner.now around.now.program.now }
     requires typed { Typed around.now.program.now }
     requires keeps { Keeps around.now.program.now }
     requires fits { ContextFits around.now.program.now context.old }
-    requires cargo { CargoFits around.now.program.now cargo.now }
-    requires fuel { IsSmall context.old }
-    ensures means { OnOk result (SettlesAs around.now.program.now cargo.now context.old context.new) }
-    ensures small { OnOk result (IsSmall context.new) }
+    requires cargo { CargoFits around.now.program.now cargo }
+    requires fuel { InRange context.old }
+    ensures means { OnOk result (SettlesAs around.now.program.now cargo context.old context.new) }
+    ensures gives { IfOk result (λ c. c ≡ cargo) }
+    ensures small { OnOk result (InRange context.new) }
 {
     match cargo {
-        Cargo::Load(monitor) => entry_load(around, context, *monitor),
-        Cargo::Event(value) => entry_event(around, context, value),
+        Cargo::Load(monitor) => {
+            entry_load(around, context, monitor)?;
+            Ok(Cargo::Load(monitor))
+        }
+        Cargo::Event(value) => {
+            let value = entry_event(around, context, value)?;
+            Ok(Cargo::Event(value))
+        }
+        Cargo::Time(now) => {
+            entry_time(around, context, now)?;
+            Ok(Cargo::Time(now))
+        }
     }
 }
 
@@ -270,7 +251,7 @@ fn settle<R: BodyRunner>(
     requires keeps { Keeps around.now.program.now }
     requires fits { ContextFits around.now.program.now context.old }
     requires row { context.old.row ≡ [] }
-    requires fuel { IsSmall context.old }
+    requires fuel { InRange context.old }
     ensures { OnOk result (context.new ≡ settled around.now.program.now context.old) }
 {
     front_settles();
@@ -287,63 +268,68 @@ fn settle<R: BodyRunner>(
 fn whole<R: BodyRunner>(
     around: &Around<'_, R>,
     context: &mut LiveContext,
-    cargo: &Cargo,
-) -> Result<(), AllocError>
+    cargo: Cargo,
+) -> Result<Cargo, AllocError>
     requires serves { R.serves around.now.runner.now around.now.program.now }
     requires typed { Typed around.now.program.now }
     requires keeps { Keeps around.now.program.now }
     requires fits { ContextFits around.now.program.now context.old }
-    requires cargo { CargoFits around.now.program.now cargo.now }
-    requires fuel { IsSmall context.old }
-    ensures { OnOk result (context.new ≡ settled around.now.program.now (cargo_handled around.now.program.now cargo.now context.old)) }
+    requires cargo { CargoFits around.now.program.now cargo }
+    requires fuel { InRange context.old }
+    ensures means { OnOk result (context.new ≡ settled around.now.program.now (cargo_handled around.now.program.now cargo context.old)) }
+    ensures gives { IfOk result (λ c. c ≡ cargo) }
 {
-    entry(around, context, cargo)?;
-    settle(around, context)
+    let cargo = entry(around, context, cargo)?;
+    settle(around, context)?;
+    Ok(cargo)
 }
 
 fn handle_kept<R: BodyRunner>(
     around: &Around<'_, R>,
     context: &mut LiveContext,
     number: u64,
-    cargo: &Cargo,
-) -> Result<(), AllocError>
+    cargo: Cargo,
+) -> Result<Cargo, AllocError>
     requires serves { R.serves around.now.runner.now around.now.program.now }
     requires typed { Typed around.now.program.now }
     requires keeps { Keeps around.now.program.now }
     requires fits { ContextFits around.now.program.now context.old }
-    requires cargo { CargoFits around.now.program.now cargo.now }
-    requires fuel { IsSmall context.old }
-    ensures { OnOk result (context.new ≡ handle around.now.program.now context.old number cargo.now) }
+    requires cargo { CargoFits around.now.program.now cargo }
+    requires fuel { InRange context.old }
+    ensures means { OnOk result (context.new ≡ handle around.now.program.now context.old number cargo) }
+    ensures gives { IfOk result (λ c. c ≡ cargo) }
 {
     if number > LAST_NUMBER {
         context.spend();
-        return Ok(());
+        return Ok(cargo);
     }
     whole(around, context, cargo)
 }
 
-/// Handles what an entry carries under the number of the handling, as naive evaluation does. After want of memory nothing is said
-/// of the context.
+/// Handles what an entry carries under the number of the handling, as naive evaluation does, and gives the cargo back. After want
+/// of memory nothing is said of the context.
 pub fn handle<R: BodyRunner>(
     runner: &R,
     alloc: Global,
     program: &Program,
     context: &mut LiveContext,
     number: u64,
-    cargo: &Cargo,
-) -> Result<(), AllocError>
+    cargo: Cargo,
+) -> Result<Cargo, AllocError>
     requires serves { R.serves runner.now program.now }
     requires typed { Typed program.now }
     requires fits { ContextFits program.now context.old }
-    requires cargo { CargoFits program.now cargo.now }
+    requires cargo { CargoFits program.now cargo }
     requires fuel { context.old.fuel < 2 ^ 64 - 1 }
-    ensures means { OnOk result (context.new ≡ handle program.now context.old number cargo.now) }
+    ensures means { OnOk result (context.new ≡ handle program.now context.old number cargo) }
     ensures fits { OnOk result (ContextFits program.now context.new) }
     ensures row { OnOk result (context.old.row ≡ [] → context.new.row ≡ []) }
     ensures fuel { OnOk result (context.new.fuel ≤ context.old.fuel) }
     ensures slot { OnOk result ((context.new.slot ≡ context.old.slot) × (context.new.slots ≡ context.old.slots)) }
+    ensures gives { IfOk result (λ c. c ≡ cargo) }
 {
     runs_keep_shapes();
+    expressions_keep_shapes();
     let around = Around {
         runner,
         alloc,

@@ -1,323 +1,183 @@
-ghost use Rattle.std.specs.Prelude.{◌≡◌, ◌==◌, ◌≤◌, ◌+◌, ◌++◌, length, slice_get, nat_le, IfOk, OnOk};
+ghost use Rattle.std.specs.Prelude.{◌≡◌, false, Some, slice_get, IfOk, OnOk};
 ghost use Rattle.std.specs.Option.{option_copied};
-ghost use Rattle.epl_values.specs.declared.value.Value.{out-Value};
-ghost use Rattle.typed_program.specs.declared.term.Term.{out-Term};
 ghost use Rattle.typed_program.specs.Typed.{Typed};
-ghost use Rattle.value_shapes.specs.Fits.{IsEvent};
-ghost use Rattle.context_meaning.specs.declared.context.Stimulus.TheVariants as stimulus;
-ghost use Rattle.context_meaning.specs.Listening.{type_in, is_ordinary, is_plain, plain_in, template_of, completes, binds_at, bound_from, callback_locals};
-ghost use Rattle.context_meaning.specs.Turns.{stepped_born, turn};
+ghost use Rattle.term_shapes.specs.Kept.{CompletionsFit, HeardFits};
+ghost use Rattle.context_meaning.specs.Contexts.{behind_charge, listener_of};
 ghost use Rattle.context_meaning.specs.Fits.{ContextFits};
-ghost use Rattle.context_meaning.specs.Contexts.{behind_charge, births_in, listener_of, paid, unless_spent};
-ghost use Rattle.context_meaning.specs.Ends.{ran};
-ghost use Rattle.context_steps.specs.Steps.{CanRunIn, IsSmall, Keeps};
-ghost use Rattle.context_steps.specs.Calls.{bound_value, call_at, call_tested, call_stepped, call_found};
+ghost use Rattle.context_meaning.specs.Handling.{one_turn};
+ghost use Rattle.context_meaning.specs.Turns.{stepped, stepped_born, turn, turned};
+ghost use Rattle.context_steps.specs.Calls.{AtListener, gone_from, left, listener_in, taken, turned_to};
+ghost use Rattle.context_steps.specs.Steps.{CallerFits, InRange, Keeps};
 
 use crate::around::Around;
-use crate::ends::run;
+use crate::callbacks::{Called, call_all, called_of, charge, is_live};
+use crate::ends::end_where_idle;
 use body_runs::BodyRunner;
-use context_meaning::Listener;
-use epl_tree::Mode;
-use epl_values::{EventShapes, List, Value, Values, copy};
-use live_context::LiveContext;
-use std::alloc::{AllocError, Global};
-use typed_program::{Local, Program, Site, TemplateShape, Term};
-use value_rules::default_of;
+use live_context::{LiveContext, StepOut};
+use std::alloc::AllocError;
+use term_meaning::{Completions, Stimulus};
+use typed_program::{Program, Site};
 
-// ---- which events complete a listener
+// ---- a listener
 
-fn type_of(value: &Value) -> Option<u16>
-    ensures { result ≡ type_in (out-Value value.now) }
-{
-    match value {
-        Value::Event(number, _) => Some(*number),
-        _ => None,
-    }
-}
-
-/// An ordinary template is completed by an event of its type.
-fn completes(template: &TemplateShape, event: &Value) -> bool
-    ensures { result ≡ completes template.now (stimulus.Event event.now) }
-{
-    match type_of(event) {
-        None => false,
-        Some(number) => number == template.event,
-    }
-}
-
-fn is_ordinary(mode: &Mode) -> bool
-    ensures { result ≡ is_ordinary mode.now }
-{
-    match mode {
-        Mode::Ordinary => true,
-        _ => false,
-    }
-}
-
-fn is_plain(template: &TemplateShape) -> bool
-    ensures { result ≡ is_plain template.now }
-{
-    is_ordinary(&template.mode) && template.constraints.len() == 0 && !template.within.is_some()
-}
-
-fn plain_in(term: &Term) -> Option<&TemplateShape>
-    ensures { option_copied result ≡ plain_in (out-Term term.now) }
-{
-    match term {
-        Term::Template(template) => {
-            if is_plain(template) {
-                Some(template)
-            } else {
-                None
-            }
-        }
-        _ => None,
-    }
-}
-
-fn template_of(term: &Term) -> Option<&TemplateShape>
-    ensures { option_copied result ≡ template_of term.now }
-{
-    match term {
-        Term::All(inner) => plain_in(inner.get()),
-        _ => None,
-    }
-}
-
-// ---- what a callback begins with
-
-fn binds_at(binds: Option<u16>, place: usize) -> bool
-    ensures { result ≡ binds_at binds place }
-{
-    match binds {
-        None => false,
-        Some(other) => other as usize == place,
-    }
-}
-
-/// The value of a name that a template binds.
-fn bound_value(
-    alloc: Global,
-    types: &EventShapes,
-    binds: Option<u16>,
-    event: &Value,
-    place: usize,
-    local: &Local,
-) -> Result<Value, AllocError>
-    ensures { IfOk result (λ v. v ≡ bound_value types.now binds event.now place local.now) }
-{
-    if binds_at(binds, place) {
-        return copy(alloc, event);
-    }
-    default_of(alloc, &local.shape, types)
-}
-
-fn copies(alloc: Global, values: &[Value]) -> Result<Values, AllocError>
-    ensures { IfOk result (λ vs. vs ≡ values.now) }
-{
-    let mut made = List::new(alloc);
-    for value in values {
-        made.push(copy(alloc, value)?)?;
-    }
-    Ok(made)
-}
-
-/// Adds the values of the names that a template binds.
-fn push_bound(
-    alloc: Global,
-    types: &EventShapes,
-    binds: Option<u16>,
-    event: &Value,
-    bound: &[Local],
-    locals: &mut Values,
-) -> Result<(), AllocError>
-    ensures { OnOk result (locals.new ≡ locals.old ++ bound_from types.now binds event.now 0 bound.now) }
-{
-    for (place, local) in bound.iter().enumerate() {
-        let value = bound_value(alloc, types, binds, event, place, local)?;
-        locals.push(value)?;
-    }
-    Ok(())
-}
-
-fn callback_locals(
-    alloc: Global,
-    types: &EventShapes,
-    template: &TemplateShape,
-    site: &Site,
-    captured: &Values,
-    event: &Value,
-) -> Result<Values, AllocError>
-    ensures { IfOk result (λ vs. vs ≡ callback_locals types.now template.now site.now captured.now event.now) }
-{
-    let mut locals = copies(alloc, captured.as_slice())?;
-    push_bound(
-        alloc,
-        types,
-        template.binds,
-        event,
-        site.bound.as_slice(),
-        &mut locals,
-    )?;
-    Ok(locals)
-}
-
-// ---- callbacks
-
-/// A callback that is to run: the number of its instance, that of its body, and its locals.
-#[derive(Drop)]
-pub struct Call {
-    pub instance: u64,
-    pub body: u16,
-    pub locals: Values,
-}
-
-/// The number of the body of a site, behind the actions; the limits of a program keep it in 16 bits.
-fn body_number(program: &Program, site: u16) -> Result<u16, AllocError>
-    ensures { IfOk result (λ n. n ≡ length program.now.actions + site) }
-{
-    let number = program.actions.len() + site as usize;
-    match u16::try_from(number) {
-        Ok(number) => Ok(number),
-        Err(_) => Err(AllocError),
-    }
-}
-
-/// The callback of a listener whose template an event completes.
-fn call_for(
-    alloc: Global,
-    program: &Program,
-    template: &TemplateShape,
-    site: &Site,
-    listener: &Listener,
-    event: &Value,
-) -> Result<Call, AllocError>
-    ensures { IfOk result (λ call. call ≡ call_at program.now template.now site.now listener.now event.now) }
-{
-    let body = body_number(program, listener.site)?;
-    let locals = callback_locals(
-        alloc,
-        &program.types,
-        template,
-        site,
-        &listener.captured,
-        event,
-    )?;
-    Ok(Call {
-        instance: listener.instance,
-        body,
-        locals,
-    })
-}
-
-/// The callback that an event lets run at a listener of a site.
-fn call_tested(
-    alloc: Global,
-    program: &Program,
-    site: &Site,
-    listener: &Listener,
-    event: &Value,
-) -> Result<Option<Call>, AllocError>
-    ensures { IfOk result (λ call. call ≡ call_tested program.now (template_of site.now.term) site.now listener.now event.now) }
-{
-    match template_of(&site.term) {
-        None => Ok(None),
-        Some(template) => {
-            if !completes(template, event) {
-                return Ok(None);
-            }
-            Ok(Some(call_for(alloc, program, template, site, listener, event)?))
-        }
-    }
-}
-
-/// The callback that an event lets run at a listener.
-fn call_at(
-    alloc: Global,
-    program: &Program,
-    listener: &Listener,
-    event: &Value,
-) -> Result<Option<Call>, AllocError>
-    ensures { IfOk result (λ call. call ≡ call_stepped program.now (slice_get program.now.sites listener.now.site) listener.now event.now) }
-{
-    match program.sites.as_slice().get(listener.site as usize) {
-        None => Ok(None),
-        Some(site) => call_tested(alloc, program, site, listener, event),
-    }
-}
-
-/// The callback that an event lets run at the listener of a birth, where it is live.
-fn call_of(
-    alloc: Global,
-    program: &Program,
-    context: &LiveContext,
-    birth: u64,
-    event: &Value,
-) -> Result<Option<Call>, AllocError>
-    ensures { IfOk result (λ call. call ≡ call_found program.now event.now (listener_of birth context.now)) }
-{
-    match context.listener(birth) {
-        None => Ok(None),
-        Some(listener) => call_at(alloc, program, listener, event),
-    }
-}
-
-// ---- turns
-
-/// A charge; where there is less fuel, the context is spent.
-pub fn charge(context: &mut LiveContext, amount: u64) -> bool
-    requires { IsSmall context.old }
-    ensures after { context.new ≡ paid amount context.old }
-    ensures answer { result ≡ nat_le amount context.old.fuel }
-    ensures small { IsSmall context.new }
-{
-    context.pay(amount)
-}
-
-/// A callback runs, which is charged.
-fn call_back<R: BodyRunner>(
+/// While the listener of a birth is live it goes, and an instance without a live listener ends.
+fn leave<R: BodyRunner>(
     around: &Around<'_, R>,
     context: &mut LiveContext,
-    call: Call,
-) -> Result<(), AllocError>
-    requires serves { R.serves around.now.runner.now around.now.program.now }
-    requires typed { Typed around.now.program.now }
-    requires keeps { Keeps around.now.program.now }
-    requires runs { CanRunIn around.now.program.now call.instance call.body call.locals context.old }
-    requires fuel { IsSmall context.old }
-    ensures means { OnOk result (context.new ≡ behind_charge 1 (ran around.now.program.now call.instance call.body call.locals) context.old) }
-    ensures small { OnOk result (IsSmall context.new) }
-{
-    let Call {
-        instance,
-        body,
-        locals,
-    } = call;
-    if !charge(context, 1) {
-        return Ok(());
-    }
-    run(around, context, instance, body, locals)
-}
-
-/// The listener of a birth is stepped, where it is live.
-fn step<R: BodyRunner>(
-    around: &Around<'_, R>,
-    context: &mut LiveContext,
-    event: &Value,
     birth: u64,
+    instance: u64,
 ) -> Result<(), AllocError>
     requires serves { R.serves around.now.runner.now around.now.program.now }
     requires typed { Typed around.now.program.now }
     requires keeps { Keeps around.now.program.now }
     requires fits { ContextFits around.now.program.now context.old }
-    requires event { IsEvent around.now.program.now.types event.now (out-Value event.now) }
-    requires fuel { IsSmall context.old }
-    ensures means { OnOk result (context.new ≡ stepped_born around.now.program.now (stimulus.Event event.now) birth context.old) }
-    ensures small { OnOk result (IsSmall context.new) }
+    requires fuel { InRange context.old }
+    ensures means { OnOk result (context.new ≡ gone_from around.now.program.now birth instance context.old) }
+    ensures small { OnOk result (InRange context.new) }
 {
-    match call_of(around.alloc, around.program, context, birth, event)? {
+    if !is_live(context, birth) {
+        return Ok(());
+    }
+    context.quit(birth);
+    end_where_idle(around, context, instance)
+}
+
+/// A listener with nothing left goes, unless the context is spent.
+fn leave_if<R: BodyRunner>(
+    around: &Around<'_, R>,
+    context: &mut LiveContext,
+    called: &Called,
+    ended: bool,
+) -> Result<(), AllocError>
+    requires serves { R.serves around.now.runner.now around.now.program.now }
+    requires typed { Typed around.now.program.now }
+    requires keeps { Keeps around.now.program.now }
+    requires fits { ContextFits around.now.program.now context.old }
+    requires fuel { InRange context.old }
+    ensures means { OnOk result (context.new ≡ left around.now.program.now (listener_in called.now) ended context.old) }
+    ensures small { OnOk result (InRange context.new) }
+{
+    if !ended {
+        return Ok(());
+    }
+    if context.is_spent() {
+        return Ok(());
+    }
+    leave(around, context, called.birth, called.instance)
+}
+
+fn site_at(program: &Program, number: u16) -> Option<&Site>
+    ensures { option_copied result ≡ slice_get program.now.sites number }
+{
+    program.sites.as_slice().get(number as usize)
+}
+
+/// The callback of a listener of a site runs for each completion, and a listener with nothing left goes.
+fn finish<R: BodyRunner>(
+    around: &Around<'_, R>,
+    context: &mut LiveContext,
+    called: &Called,
+    site: &Site,
+    completions: &Completions,
+    ended: bool,
+) -> Result<(), AllocError>
+    requires serves { R.serves around.now.runner.now around.now.program.now }
+    requires typed { Typed around.now.program.now }
+    requires keeps { Keeps around.now.program.now }
+    requires fits { ContextFits around.now.program.now context.old }
+    requires caller { CallerFits around.now.program.now (listener_in called.now) site.now context.old }
+    requires bound { CompletionsFit around.now.program.now.types site.now.bound completions.now }
+    requires fuel { InRange context.old }
+    ensures means { OnOk result (context.new ≡ taken around.now.program.now (listener_in called.now) site.now completions.now ended context.old) }
+    ensures small { OnOk result (InRange context.new) }
+{
+    call_all(around, context, called, site, completions.as_slice())?;
+    leave_if(around, context, called, ended)
+}
+
+/// The same of the listener of a birth, where it is live.
+fn finish_at<R: BodyRunner>(
+    around: &Around<'_, R>,
+    context: &mut LiveContext,
+    birth: u64,
+    completions: &Completions,
+    ended: bool,
+) -> Result<(), AllocError>
+    requires serves { R.serves around.now.runner.now around.now.program.now }
+    requires typed { Typed around.now.program.now }
+    requires keeps { Keeps around.now.program.now }
+    requires fits { ContextFits around.now.program.now context.old }
+    requires bound { AtListener around.now.program.now birth context.old (λ l site. CompletionsFit around.now.program.now.types site.bound completions.now) }
+    requires fuel { InRange context.old }
+    ensures means { OnOk result (AtListener around.now.program.now birth context.old (λ l site. context.new ≡ taken around.now.program.now l site completions.now ended context.old)) }
+    ensures small { OnOk result (InRange context.new) }
+{
+    let Some(called) = called_of(around.alloc, context, birth)? else {
+        return Ok(());
+    };
+    match site_at(around.program, called.site) {
         None => Ok(()),
-        Some(call) => call_back(around, context, call),
+        Some(site) => finish(around, context, &called, site, completions, ended),
+    }
+}
+
+/// What the step of a listener comes to: the leaves that begin are charged, and then its callback runs.
+fn take<R: BodyRunner>(
+    around: &Around<'_, R>,
+    context: &mut LiveContext,
+    birth: u64,
+    out: StepOut,
+) -> Result<(), AllocError>
+    requires serves { R.serves around.now.runner.now around.now.program.now }
+    requires typed { Typed around.now.program.now }
+    requires keeps { Keeps around.now.program.now }
+    requires fits { ContextFits around.now.program.now context.old }
+    requires bound { AtListener around.now.program.now birth context.old (λ l site. CompletionsFit around.now.program.now.types site.bound out.completions) }
+    requires fuel { InRange context.old }
+    ensures means { OnOk result (AtListener around.now.program.now birth context.old (λ l site. context.new ≡ behind_charge out.begun (taken around.now.program.now l site out.completions out.ended) context.old)) }
+    ensures small { OnOk result (InRange context.new) }
+{
+    let StepOut {
+        completions,
+        ended,
+        begun,
+        ..
+    } = out;
+    if !charge(context, begun) {
+        return Ok(());
+    }
+    if completions.len() == 0 && !ended {
+        return Ok(());
+    }
+    finish_at(around, context, birth, &completions, ended)
+}
+
+// ---- turns
+
+/// The listener of a birth is stepped, where it is live; whether an ordinary template has fitted now, where one had or had not.
+fn step<R: BodyRunner>(
+    around: &Around<'_, R>,
+    context: &mut LiveContext,
+    stimulus: &Stimulus,
+    birth: u64,
+    fitted: bool,
+) -> Result<bool, AllocError>
+    requires serves { R.serves around.now.runner.now around.now.program.now }
+    requires typed { Typed around.now.program.now }
+    requires keeps { Keeps around.now.program.now }
+    requires fits { ContextFits around.now.program.now context.old }
+    requires heard { HeardFits around.now.program.now.types stimulus.now }
+    requires fuel { InRange context.old }
+    ensures means { IfOk result (λ now. turned_to context.new now ≡ stepped around.now.program.now stimulus.now (listener_of birth context.old) (turned_to context.old fitted)) }
+    ensures small { OnOk result (InRange context.new) }
+{
+    match context.step(around.program, birth, stimulus)? {
+        None => Ok(fitted),
+        Some(out) => {
+            let fits = out.fitted;
+            take(around, context, birth, out)?;
+            Ok(fitted || fits)
+        }
     }
 }
 
@@ -325,62 +185,86 @@ fn step<R: BodyRunner>(
 fn step_unless_spent<R: BodyRunner>(
     around: &Around<'_, R>,
     context: &mut LiveContext,
-    event: &Value,
+    stimulus: &Stimulus,
     birth: u64,
-) -> Result<(), AllocError>
+    fitted: bool,
+) -> Result<bool, AllocError>
     requires serves { R.serves around.now.runner.now around.now.program.now }
     requires typed { Typed around.now.program.now }
     requires keeps { Keeps around.now.program.now }
     requires fits { ContextFits around.now.program.now context.old }
-    requires event { IsEvent around.now.program.now.types event.now (out-Value event.now) }
-    requires fuel { IsSmall context.old }
-    ensures means { OnOk result (context.new ≡ unless_spent (stepped_born around.now.program.now (stimulus.Event event.now) birth) context.old) }
-    ensures fits { OnOk result (ContextFits around.now.program.now context.new) }
-    ensures small { OnOk result (IsSmall context.new) }
+    requires heard { HeardFits around.now.program.now.types stimulus.now }
+    requires fuel { InRange context.old }
+    ensures means { IfOk result (λ now. turned_to context.new now ≡ stepped_born around.now.program.now stimulus.now birth (turned_to context.old fitted)) }
+    ensures small { OnOk result (InRange context.new) }
 {
     if context.is_spent() {
-        return Ok(());
+        return Ok(fitted);
     }
-    step(around, context, event, birth)
+    step(around, context, stimulus, birth, fitted)
 }
 
-/// The listeners of these births are stepped, each while it is live.
+/// The listeners of these births are stepped, each while it is live; whether an ordinary template of one fitted.
 fn step_all<R: BodyRunner>(
     around: &Around<'_, R>,
     context: &mut LiveContext,
-    event: &Value,
+    stimulus: &Stimulus,
     births: &[u64],
-) -> Result<(), AllocError>
+) -> Result<bool, AllocError>
     requires serves { R.serves around.now.runner.now around.now.program.now }
     requires typed { Typed around.now.program.now }
     requires keeps { Keeps around.now.program.now }
     requires fits { ContextFits around.now.program.now context.old }
-    requires event { IsEvent around.now.program.now.types event.now (out-Value event.now) }
-    requires fuel { IsSmall context.old }
-    ensures means { OnOk result (context.new ≡ turn around.now.program.now (stimulus.Event event.now) births.now context.old) }
-    ensures small { OnOk result (IsSmall context.new) }
+    requires heard { HeardFits around.now.program.now.types stimulus.now }
+    requires fuel { InRange context.old }
+    ensures means { IfOk result (λ fitted. turned_to context.new fitted ≡ turn around.now.program.now stimulus.now births.now (turned_to context.old false)) }
+    ensures fits { OnOk result (ContextFits around.now.program.now context.new) }
+    ensures small { OnOk result (InRange context.new) }
 {
+    let mut fitted = false;
     'births: for birth in births {
-        step_unless_spent(around, context, event, *birth)?;
+        fitted = step_unless_spent(around, context, stimulus, *birth, fitted)?;
     }
-    Ok(())
+    Ok(fitted)
 }
 
-/// A turn: the listeners that live now, in order of birth, each while it is live.
+/// A turn: the listeners that live now, in order of birth, each while it is live; whether an ordinary template of one fitted.
 pub fn turn<R: BodyRunner>(
     around: &Around<'_, R>,
     context: &mut LiveContext,
-    event: &Value,
+    stimulus: &Stimulus,
+) -> Result<bool, AllocError>
+    requires serves { R.serves around.now.runner.now around.now.program.now }
+    requires typed { Typed around.now.program.now }
+    requires keeps { Keeps around.now.program.now }
+    requires fits { ContextFits around.now.program.now context.old }
+    requires heard { HeardFits around.now.program.now.types stimulus.now }
+    requires fuel { InRange context.old }
+    ensures means { IfOk result (λ fitted. turned_to context.new fitted ≡ turned around.now.program.now stimulus.now context.old) }
+    ensures fits { OnOk result (ContextFits around.now.program.now context.new) }
+    ensures small { OnOk result (InRange context.new) }
+{
+    let births = context.births_noted()?;
+    let fitted = step_all(around, context, stimulus, births.as_slice())?;
+    context.births_done(births);
+    Ok(fitted)
+}
+
+/// A turn, whatever fitted in it.
+pub fn one_turn<R: BodyRunner>(
+    around: &Around<'_, R>,
+    context: &mut LiveContext,
+    stimulus: &Stimulus,
 ) -> Result<(), AllocError>
     requires serves { R.serves around.now.runner.now around.now.program.now }
     requires typed { Typed around.now.program.now }
     requires keeps { Keeps around.now.program.now }
     requires fits { ContextFits around.now.program.now context.old }
-    requires event { IsEvent around.now.program.now.types event.now (out-Value event.now) }
-    requires fuel { IsSmall context.old }
-    ensures means { OnOk result (context.new ≡ turn around.now.program.now (stimulus.Event event.now) (births_in context.old) context.old) }
-    ensures small { OnOk result (IsSmall context.new) }
+    requires heard { HeardFits around.now.program.now.types stimulus.now }
+    requires fuel { InRange context.old }
+    ensures means { OnOk result (context.new ≡ one_turn around.now.program.now stimulus.now context.old) }
+    ensures small { OnOk result (InRange context.new) }
 {
-    let births = context.births_noted()?;
-    step_all(around, context, event, births.as_slice())
+    let _fitted = turn(around, context, stimulus)?;
+    Ok(())
 }

@@ -1,9 +1,10 @@
 -- Which pattern an event expression stands for, form by form, and where a chain is cut before its last operand.
-use Rattle.std.proofs.Common.{◌≡◌, Bool, true, false, ◌&&◌, List, [], ◌∷◌, ◌++◌, map, Option, Some, None, refl, sym, ap, ◌∙◌}
+use Rattle.std.specs.Prelude.{◌==◌}
+use Rattle.std.proofs.Common.{◌≡◌, true, false, List, [], ◌∷◌, ◌++◌, length, map, Option, refl, sym, ap, ◌∙◌}
+use Rattle.std.proofs.lemmas.Bool.{false≢true}
 use Rattle.typed_program.specs.declared.term.Duration.{Duration}
 use Rattle.typed_program.specs.declared.term.TemplateShape.{TemplateShape}
 use Rattle.typed_program.specs.declared.term.Term.{Term, Term-F, roll-Term, map-Term, fold-roll-Term}
-use Rattle.typed_program.specs.declared.term.Term.TheOpen as layer
 use Rattle.typed_program.specs.declared.term.Term.TheVariants as term
 use Rattle.term_meaning.specs.declared.progress.Link.{Link}
 use Rattle.term_meaning.specs.declared.progress.Link.TheVariants as link
@@ -58,15 +59,11 @@ pub chain_last : (l : Link) (first : Term) (before : List Term) (last : Term)
     → (chained l (operand_of first) (map operand_of (before ++ last ∷ []))).pattern ≡ joined l (chained l (operand_of first) (map operand_of before)) (operand_of last)
 chain_last l first before last = ap (λ ts. (chained l (operand_of first) ts).pattern) (map_last before last) ∙ ap (λ (o : Operand). o.pattern) (chained_last l (operand_of first) (map operand_of before) (operand_of last))
 
-abbrev pub none : List Term → Bool
-none [] = true
-none (t ∷ ts) = false
-
 chained_plain : (l : Link) (p : Pattern) (rest : List Operand) → (chained l (plain p) rest).negated ≡ false
 chained_plain l p [] = refl
 chained_plain l p (second ∷ rest) = chained_plain l (joined l (plain p) second) rest
 
--- only the first operand of a chain can stand under a `not` in it
-pub chain_negated : (l : Link) (first : Term) (rest : List Term) → (chained l (operand_of first) (map operand_of rest)).negated ≡ none rest && (operand_of first).negated
-chain_negated l first [] = refl
-chain_negated l first (second ∷ rest) = chained_plain l (joined l (operand_of first) (operand_of second)) (map operand_of rest)
+-- a chain of two operands and more doesn't stand under a `not`
+pub never_negated : (l : Link) (first : Term) (rest : List Term) → (length rest == 0) ≡ false → (chained l (operand_of first) (map operand_of rest)).negated ≡ false
+never_negated l first [] some = absurd (false≢true (sym some))
+never_negated l first (second ∷ rest) some = chained_plain l (joined l (operand_of first) (operand_of second)) (map operand_of rest)

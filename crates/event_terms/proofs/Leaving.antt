@@ -1,5 +1,5 @@
 -- The leaves in each form of an event expression, as an equation.
-use Rattle.std.proofs.Common.{◌≡◌, ℕ, ℤ, List, [], ◌∷◌, ◌++◌, map, flat_map, Option, sym, ap, ◌∙◌}
+use Rattle.std.proofs.Common.{◌≡◌, ◌+◌, ℕ, ℤ, List, [], ◌∷◌, ◌++◌, map, flat_map, drop, Option, sym, ap, ◌∙◌, append_assoc, append-nil}
 use Rattle.term_meaning.specs.declared.leaf.Leaf.{Leaf}
 use Rattle.term_meaning.specs.declared.progress.Progress.{Progress, roll-Progress, map-Progress}
 use Rattle.term_meaning.specs.declared.progress.Progress.TheVariants as progress
@@ -52,4 +52,23 @@ sides_leaves r = sides_leaves_is r
 pub copy_leaves : (r : Running) → leaves_of_copy r ≡ leaves_in (out-Running r).progress
 copy_leaves r = copy_leaves_is r
 
-pub ruleset leaving = (leaves-gone, leaves-template, leaves-wait, leaves-all, leaves-followed, leaves-and, leaves-and_not, leaves-not_and, leaves-or, leaves-xor, leaves-within)
+-- ---- behind other leaves
+
+pub behind-gone : (front : List Leaf) → front ++ leaves_in progress.Gone ≡ front
+behind-gone front = ap (λ ls. front ++ ls) leaves-gone ∙ append-nil front
+
+pub behind-followed : (front : List Leaf) (x : Progress) (copies : List Running) → front ++ leaves_in (progress.Followed x copies) ≡ (front ++ leaves_in x) ++ flat_map (λ leaves. leaves) (map leaves_of_copy copies)
+behind-followed front x copies = ap (λ ls. front ++ ls) (leaves-followed x copies) ∙ sym (append_assoc front (leaves_in x) (flat_map (λ leaves. leaves) (map leaves_of_copy copies)))
+
+pub behind-within : (front : List Leaf) (number : ℕ) (until : ℤ) (x : Progress) → front ++ leaves_in (progress.Within number until x) ≡ (front ++ deadline_leaf number until ∷ []) ++ leaves_in x
+behind-within front number until x = ap (λ ls. front ++ ls) (leaves-within number until x) ∙ sym (append_assoc front (deadline_leaf number until ∷ []) (leaves_in x))
+
+pub behind_sides : (front : List Leaf) (r : Sides) → front ++ leaves_of_sides r ≡ (front ++ leaves_in (out-Sides r).left) ++ leaves_in (out-Sides r).right
+behind_sides front r = ap (λ ls. front ++ ls) (sides_leaves r) ∙ sym (append_assoc front (leaves_in (out-Sides r).left) (leaves_in (out-Sides r).right))
+
+-- one more copy's leaves
+pub behind-copy : (all : List Leaf) (copies : List Running) (i : ℕ) (copy : Running) → drop i copies ≡ copy ∷ drop (i + 1) copies
+    → (all ++ leaves_of_copy copy) ++ flat_map (λ leaves. leaves) (map leaves_of_copy (drop (i + 1) copies)) ≡ all ++ flat_map (λ leaves. leaves) (map leaves_of_copy (drop i copies))
+behind-copy all copies i copy is = append_assoc all (leaves_of_copy copy) (flat_map (λ leaves. leaves) (map leaves_of_copy (drop (i + 1) copies))) ∙ ap (λ cs. all ++ flat_map (λ leaves. leaves) (map leaves_of_copy cs)) (sym is)
+
+pub ruleset leaving = (behind-gone, leaves-template, leaves-wait, leaves-all, behind-followed, leaves-and, leaves-and_not, leaves-not_and, leaves-or, leaves-xor, behind-within)

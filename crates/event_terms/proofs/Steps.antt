@@ -3,14 +3,14 @@ use Rattle.std.proofs.Common.{◌≡◌, ℕ, ℤ, List, map, Option, sym, ap, �
 use Rattle.term_meaning.specs.declared.leaf.Leaf.{Leaf}
 use Rattle.term_meaning.specs.declared.progress.Progress.{Progress, roll-Progress, map-Progress}
 use Rattle.term_meaning.specs.declared.progress.Progress.TheVariants as progress
-use Rattle.term_meaning.specs.declared.progress.Running.{Running, out-Running}
+use Rattle.term_meaning.specs.declared.progress.Running.{Running}
 use Rattle.term_meaning.specs.declared.progress.Sides.{Sides, out-Sides}
 use Rattle.term_meaning.specs.declared.stimulus.Binding.{Binding}
 use Rattle.term_meaning.specs.declared.stimulus.Stimulus.{Stimulus}
 use Rattle.term_meaning.specs.Operands.{Setting}
 use Rattle.term_meaning.specs.Patterns.{Pattern, binds_of}
 use Rattle.term_meaning.specs.Step.{Copy, Step, Two, all_form, and_form, and_not_form, followed_form, lapsed, not_and_form, or_form, step_copy, step_layer, step_of, step_sides, template_step, wait_step, within_form, xor_form}
-use Rattle.term_meaning.proofs.Still.{Layer, copy_step, sides_step, steps_rolled}
+use Rattle.term_meaning.proofs.Still.{Layer, sides_step, steps_rolled}
 
 module _ (setting : Setting) (s : Stimulus) where
   rolled : {x : Progress} (d : Layer) → roll-Progress d ≡ x → (p : Pattern) (seen : List Binding) (next : ℕ) → step_of setting s x p seen next ≡ step_layer setting s (map-Progress Progress Running Sides Step Copy Two (step_of setting s) (step_copy setting s) (step_sides setting s) d) p seen next

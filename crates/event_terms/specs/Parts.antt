@@ -1,6 +1,5 @@
 -- Parts of event expressions, and which pattern each stands for.
-use Rattle.std.specs.Prelude.{◌≡◌, ℕ, ◌+◌, List, [], map, Option, Some, None}
-use Rattle.typed_program.specs.declared.term.Term.{Term}
+use Rattle.std.specs.Prelude.{◌≡◌, ℕ, ◌+◌, map, Option, Some, None}
 use Rattle.term_meaning.specs.Patterns.{Operand, Pattern, chained, operand_of}
 use Rattle.term_meaning.specs.Patterns as pattern
 use Rattle.event_terms.specs.declared.shown.Form.{Form}

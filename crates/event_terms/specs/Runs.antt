@@ -1,5 +1,5 @@
 -- The running copies of a `->`, of which some have been stepped at their places.
-use Rattle.std.specs.Prelude.{◌≡◌, ◌++◌, ◌||◌, ℕ, List, [], length, drop, false, slice_set}
+use Rattle.std.specs.Prelude.{◌++◌, ◌||◌, ℕ, List, [], length, drop, false, slice_set}
 use Rattle.term_meaning.specs.declared.progress.Ran.{Ran}
 use Rattle.term_meaning.specs.declared.progress.Running.{Running}
 use Rattle.term_meaning.specs.declared.progress.Stepped.{Stepped}

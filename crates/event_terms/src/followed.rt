@@ -53,13 +53,19 @@ fn is_left(copy: &Running) -> bool
     !is_gone(&copy.progress)
 }
 
+fn retained(items: Vec<Running>) -> Vec<Running>
+    ensures { result.items ≡ filter is_left items.items }
+{
+    let mut left = items;
+    left.retain(|copy| is_left(copy));
+    left
+}
+
 /// The copies of which something is left.
 fn those_left(copies: RunningCopies) -> RunningCopies
     ensures { result ≡ those_left copies }
 {
-    let mut items = copies.into_vec();
-    items.retain(|copy| is_left(copy));
-    List::from_vec(items)
+    List::from_vec(retained(copies.into_vec()))
 }
 
 /// One more copy of the right side, with all that is bound so far.

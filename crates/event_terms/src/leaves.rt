@@ -56,7 +56,7 @@ fn with_leaves(alloc: Global, front: Leaves, progress: &Progress) -> Result<Leav
 }
 
 #[cycle(leaves)]
-#[tactic(auto, using(crate::proofs::Leaving::sides_leaves))]
+#[tactic(auto, using(crate::proofs::Leaving::behind_sides))]
 fn with_sides(alloc: Global, front: Leaves, sides: &Sides) -> Result<Leaves, AllocError>
     ensures { IfOk result (λ all. all ≡ front ++ leaves_of_sides sides.now) }
 {
@@ -73,11 +73,7 @@ fn with_copy(alloc: Global, front: Leaves, copy: &Running) -> Result<Leaves, All
 }
 
 #[cycle(leaves)]
-fn with_copies(
-    alloc: Global,
-    front: Leaves,
-    copies: &RunningCopies,
-) -> Result<Leaves, AllocError>
+fn with_copies(alloc: Global, front: Leaves, copies: &RunningCopies) -> Result<Leaves, AllocError>
     ensures { IfOk result (λ all. all ≡ front ++ flat_map (λ leaves. leaves) (map leaves_of_copy copies.now)) }
 {
     let mut all = front;

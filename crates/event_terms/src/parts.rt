@@ -121,8 +121,10 @@ pub fn form_of(term: &Term) -> Form<'_>
         },
         Term::All(inner) => Form::All(alone(inner.get())),
         Term::Not(inner) => form_of(inner.get()),
-        Term::Group(inner, None) => form_of(inner.get()),
-        Term::Group(inner, Some(duration)) => Form::Within(alone(inner.get()), *duration),
+        Term::Group(inner, within) => match within {
+            None => form_of(inner.get()),
+            Some(duration) => Form::Within(alone(inner.get()), *duration),
+        },
         Term::Wait(duration) => Form::Wait(*duration),
         Term::Template(template) => Form::Template(template),
     }

@@ -106,6 +106,7 @@ impl State {
         ensures count { IfOk result (λ out. out.begun + self.old.expression.next ≡ self.new.expression.next) }
         ensures goes { IfOk result (λ out. GoesOn self.new.expression.progress) }
     {
+        let found = program.sites.get(self.site as usize);
         if !waits_in(&self.progress, stimulus) {
             return Ok(StepOut {
                 completions: List::new(alloc),
@@ -114,7 +115,6 @@ impl State {
                 begun: 0,
             });
         }
-        let found = program.sites.get(self.site as usize);
         let progress = mem::replace(&mut self.progress, Progress::Gone);
         let before = self.next;
         let moment = Moment {

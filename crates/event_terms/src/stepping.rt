@@ -97,7 +97,7 @@ fn ran_on(
 
 /// Moves an event expression.
 #[cycle(stepping)]
-#[tactic(auto, using(crate::proofs::Steps::stepping))]
+#[tactic(auto, using(crate::proofs::Steps::stepping), unfolding(term_meaning::specs::Step::followed_form))]
 pub fn step(
     progress: Progress,
     moment: &Moment<'_, '_>,
@@ -115,7 +115,18 @@ pub fn step(
         }
         Progress::Wait(number, due) => wait(alloc, moment.stimulus, number, due, next),
         Progress::All(x) => step_all(x, moment, whole, seen, next),
-        Progress::Followed(x, copies) => step_followed(x, copies, moment, whole, seen, next),
+        Progress::Followed(held, copies) => {
+            let ran = run(copies, moment, second_of(whole), seen, next)?;
+            let mut x = held;
+            let a = step(
+                x.put(Progress::Gone),
+                moment,
+                first_of(whole),
+                seen,
+                ran.next,
+            )?;
+            growing(&moment.origin, x, ran, a, whole, seen)
+        }
         Progress::And(sides, l, r) => step_and(sides, l, r, moment, whole, seen, next),
         Progress::AndNot(sides) => step_and_not(sides, moment, whole, seen, next),
         Progress::NotAnd(sides) => step_not_and(sides, moment, whole, seen, next),
@@ -169,30 +180,6 @@ fn step_within(
         next,
     )?;
     Ok(within(held, number, until, a))
-}
-
-#[cycle(stepping)]
-#[tactic(auto, unfolding(term_meaning::specs::Step::followed_form))]
-fn step_followed(
-    held: Held<Progress>,
-    copies: RunningCopies,
-    moment: &Moment<'_, '_>,
-    whole: Form<'_>,
-    seen: &[Binding],
-    next: u64,
-) -> Result<Stepped, AllocError>
-    ensures { IfOk result (λ r. r ≡ followed_form (setting_at moment.entry.now) (step_of (setting_at moment.entry.now) moment.entry.now.stimulus.now held) (map (step_copy (setting_at moment.entry.now) moment.entry.now.stimulus.now) copies) (form_pattern whole.entry) seen.now next) }
-{
-    let ran = run(copies, moment, second_of(whole), seen, next)?;
-    let mut held = held;
-    let a = step(
-        held.put(Progress::Gone),
-        moment,
-        first_of(whole),
-        seen,
-        ran.next,
-    )?;
-    growing(&moment.origin, held, ran, a, whole, seen)
 }
 
 /// The running copies, one after another, each at its place.

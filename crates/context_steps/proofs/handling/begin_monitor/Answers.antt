@@ -1,5 +1,4 @@
 use Rattle.std.proofs.Common.{ap, ◌∙◌, map}
-use Rattle.std.proofs.lemmas.Result.{on_ok_weaker}
 use Rattle.value_rules.specs.Defaults.{default_of}
 use Rattle.typed_program.specs.declared.program.Global.{Global}
 use Rattle.context_steps.proofs.Fronts.{can_load}

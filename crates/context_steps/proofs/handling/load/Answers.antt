@@ -1,4 +1,4 @@
-use Rattle.context_steps.proofs.Callbacks.{paid_fits}
+use Rattle.context_steps.proofs.Calling.{paid_fits}
 use Rattle.context_steps.proofs.handling.load.Goals as goal
 
 pub begin_monitor-requires-clause-fits : goal.begin_monitor-requires-clause-fits

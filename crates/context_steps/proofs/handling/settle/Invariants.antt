@@ -1,7 +1,7 @@
 use Rattle.std.proofs.Common.{◌≡◌, ◌+◌, ◌*◌, []}
-use Rattle.context_meaning.specs.Turns.{front_weight, settled}
+use Rattle.context_meaning.specs.Handling.{front_weight, settled}
 use Rattle.context_meaning.specs.Fits.{ContextFits}
-use Rattle.context_steps.specs.Steps.{IsSmall}
+use Rattle.context_steps.specs.Steps.{InRange}
 use Rattle.context_steps.proofs.handling.settle.Given as goal
 
 abbrev pub invariant-front : goal.invariant-front
@@ -9,7 +9,7 @@ invariant-front g l = record {
   means : settled l.around.program.now l.context ≡ settled l.around.program.now l.initial.context;
   fits : ContextFits l.around.program.now l.context;
   row : l.context.row ≡ [];
-  small : IsSmall l.context;
+  small : InRange l.context;
 }
 
 abbrev pub decreases-front : goal.decreases-front
