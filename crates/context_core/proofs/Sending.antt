@@ -21,6 +21,10 @@ part state number log outboxes = record { cell = record { state = state; number 
 abbrev pub handled : Entry Cargo → ℕ → Handled Cargo
 handled e number = record { entry = e; number = number }
 
+-- the entry has its cargo back
+pub came-back : (log log' : List (Handled Cargo)) (e : Entry Cargo) (cargo : Cargo) (number : ℕ) → cargo ≡ e.cargo → log' ≡ log ++ handled (record e { cargo = cargo }) number ∷ [] → log' ≡ log ++ handled e number ∷ []
+came-back log log' e cargo number same pushed = pushed ∙ ap (λ (x : Cargo). log ++ handled (record e { cargo = x }) number ∷ []) same
+
 pub after : (p : Program) (settings : Settings) (old : CellPart) (state state' : Context) (number number' : ℕ) (log log' : List (Handled Cargo)) (outboxes : List (List (Entry Cargo))) (e : Entry Cargo) → part state number log outboxes ≡ old → number' ≡ number_after number e
     → state' ≡ handle p state number' e.cargo → log' ≡ log ++ handled e number' ∷ [] → part state' number' log' outboxes ≡ part_after (slots_of p settings) old e
 after p settings old state state' number number' log log' outboxes e is numbered means pushed =
