@@ -72,19 +72,17 @@ can_call program l site completion c keeps fit caller bound = λ i there.
     let fits : InstanceFits program c.begun i = instance_fits program l.instance c i fit there in
     record { may = keeps.callback l site completion c fit caller bound i there; globals = fits.globals; number = fits.number }
 
--- behind its charge
-pub can_paid : (program : Program) (l : Listener) (site : Site) (completion : List Binding) (body : ℕ) (locals : List Value) (c d : Context) → Keeps program → ContextFits program c → CallerFits program l site c → CompletionFits program.types site.bound completion → d ≡ paid 1 c → body ≡ body_number program l.site → locals ≡ callback_locals program.types site l.captured completion → CanRunIn program l.instance body locals d
-can_paid program l site completion body locals c d keeps fit caller bound so body_is locals_is =
+-- under the number of its body and with its locals
+pub can_run : (program : Program) (l : Listener) (site : Site) (completion : List Binding) (body : ℕ) (locals : List Value) (c : Context) → Keeps program → ContextFits program c → CallerFits program l site c → CompletionFits program.types site.bound completion → body ≡ body_number program l.site → locals ≡ callback_locals program.types site l.captured completion → CanRunIn program l.instance body locals c
+can_run program l site completion body locals c keeps fit caller bound body_is locals_is =
     let first : CanRunIn program l.instance (body_number program l.site) (callback_locals program.types site l.captured completion) c = can_call program l site completion c keeps fit caller bound in
-    let second : CanRunIn program l.instance (body_number program l.site) (callback_locals program.types site l.captured completion) d = subst (CanRunIn program l.instance (body_number program l.site) (callback_locals program.types site l.captured completion)) (sym so) (paid_both (CanRunIn program l.instance (body_number program l.site) (callback_locals program.types site l.captured completion)) 1 c first first) in
-    let third : CanRunIn program l.instance body (callback_locals program.types site l.captured completion) d = subst (λ b. CanRunIn program l.instance b (callback_locals program.types site l.captured completion) d) (sym body_is) second in
-    subst (λ (ls : List Value). CanRunIn program l.instance body ls d) (sym locals_is) third
+    let second : CanRunIn program l.instance body (callback_locals program.types site l.captured completion) c = subst (λ b. CanRunIn program l.instance b (callback_locals program.types site l.captured completion) c) (sym body_is) first in
+    subst (λ (ls : List Value). CanRunIn program l.instance body ls c) (sym locals_is) second
 
 -- it runs
-pub ran_called : (program : Program) (l : Listener) (site : Site) (completion : List Binding) (body : ℕ) (locals : List Value) (c d r : Context) → d ≡ paid 1 c → nat_le 1 c.fuel ≡ true → body ≡ body_number program l.site → locals ≡ callback_locals program.types site l.captured completion → r ≡ ran program l.instance body locals d → r ≡ called program l site completion c
-ran_called program l site completion body locals c d r paid_is enough body_is locals_is so =
-    charged_paid 1 (ran program l.instance (body_number program l.site) (callback_locals program.types site l.captured completion)) c d r paid_is enough
-    (so ∙ ap (λ b. ran program l.instance b locals d) body_is ∙ ap (λ (ls : List Value). ran program l.instance (body_number program l.site) ls d) locals_is)
+pub ran_called : (program : Program) (l : Listener) (site : Site) (completion : List Binding) (body : ℕ) (locals : List Value) (c r : Context) → body ≡ body_number program l.site → locals ≡ callback_locals program.types site l.captured completion → r ≡ ran program l.instance body locals c → r ≡ called program l site completion c
+ran_called program l site completion body locals c r body_is locals_is so =
+    so ∙ ap (λ b. ran program l.instance b locals c) body_is ∙ ap (λ (ls : List Value). ran program l.instance (body_number program l.site) ls c) locals_is
 
 -- ---- while it is live
 

@@ -6,7 +6,7 @@ ghost use Rattle.term_shapes.specs.Kept.{CompletionFits, CompletionsFit};
 ghost use Rattle.context_meaning.specs.Contexts.{listener_of, paid, unless_spent};
 ghost use Rattle.context_meaning.specs.Fits.{ContextFits};
 ghost use Rattle.context_meaning.specs.Listeners.{bound_from, bound_value, callback_locals};
-ghost use Rattle.context_meaning.specs.Turns.{body_number, called as charged_call, called_all, called_live};
+ghost use Rattle.context_meaning.specs.Turns.{body_number, called as called_with, called_all, called_live};
 ghost use Rattle.context_steps.specs.Calls.{called_in, is_live, listener_in};
 ghost use Rattle.context_steps.specs.Steps.{CallerFits, InRange, Keeps};
 
@@ -161,7 +161,7 @@ pub fn charge(context: &mut LiveContext, amount: u64) -> bool
     context.pay(amount)
 }
 
-/// The callback of a listener runs with a completion, which is charged.
+/// The callback of a listener runs with a completion.
 fn call<R: BodyRunner>(
     around: &Around<'_, R>,
     context: &mut LiveContext,
@@ -176,12 +176,9 @@ fn call<R: BodyRunner>(
     requires caller { CallerFits around.now.program.now (listener_in called.now) site.now context.old }
     requires bound { CompletionFits around.now.program.now.types site.now.bound completion.now }
     requires fuel { InRange context.old }
-    ensures means { OnOk result (context.new ≡ charged_call around.now.program.now (listener_in called.now) site.now completion.now context.old) }
+    ensures means { OnOk result (context.new ≡ called_with around.now.program.now (listener_in called.now) site.now completion.now context.old) }
     ensures small { OnOk result (InRange context.new) }
 {
-    if !charge(context, 1) {
-        return Ok(());
-    }
     let body = body_number(around.program, called.site)?;
     let locals = callback_locals(
         around.alloc,
