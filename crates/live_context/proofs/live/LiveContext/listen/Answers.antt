@@ -30,6 +30,6 @@ returns c =
     let program = c.args.program.now in
     let next_is : c.in-Some.birth ≡ c.self.inside.births + 1 = search rules in
     let fits : SFits w128 c.self.inside.clock = search rules in
-    let begins = subst (λ (t : ℤ). (found : Site) → slice_get program.sites c.args.site ≡ Some found → c.in_ok-state.state ≡ record { site = c.args.site; expression = begun_in (setting_of program.types found c.args.operands t) }) (to_z-of_z w128 c.self.inside.clock fits) c.in_ok-state.ensures in
+    let begins = subst (λ (t : ℤ). (found : Site) → slice_get program.sites c.args.site ≡ Some found → c.in_ok-state.state ≡ record { site = c.args.site; expression = begun_in (setting_of program.types found c.args.operands t) }) (to_z-of_z w128 c.self.inside.clock fits) c.in_ok-state.ensures.is in
     born_shown program c.args.instance c.args.site c.args.operands c.args.captured c.in-Some.birth c.push.new.self.items (instances_in c.one_more.new.instances.items) c.in_ok-state.state _ c.args.self.now c.self.view_is c.requires.there next_is begins
     (c.in_ok-push.ensures.items ∙ ap (λ (x : Listener). ls ++ x ∷ []) c.born_with.ensures) c.one_more.ensures.same
