@@ -26,15 +26,11 @@ pub fn lines(alloc: Global, types: &EventShapes, line: &mut Reader<'_>) -> Resul
     let text = line.text(alloc)?;
     let text = text.as_str();
     ensure!(text.len() < 4_294_967_295, "a long text");
-    Ok(lines_shown(alloc, types, text)?)
-}
-
-fn lines_shown(alloc: Global, types: &EventShapes, text: &str) -> Result<String, AllocError> {
     let mut lines = Items::new(alloc);
     for line in lines_of(text) {
         push_text(alloc, &mut lines, line)?;
     }
-    shown(alloc, &Value::Sequence(lines), types)
+    Ok(shown(alloc, &Value::Sequence(lines), types)?)
 }
 
 fn push_text(alloc: Global, items: &mut Items, text: &str) -> Result<(), AllocError> {
