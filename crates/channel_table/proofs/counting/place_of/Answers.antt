@@ -1,0 +1,12 @@
+use Rattle.std.proofs.Common.{rules}
+use Rattle.std.proofs.lemmas.List.Sorted.{IsPartitionPoint-from_clause}
+use Rattle.channel_table.specs.Places.{is_before}
+use Rattle.channel_table.proofs.Halves.{before_falls, parted, point}
+use Rattle.channel_table.proofs.counting.place_of.Goals as goal
+
+pub returns-clause-place : goal.returns-clause-place
+returns-clause-place c =
+    let p = is_before c.args.channel.now c.args.slot in
+    let ts = c.args.counts.now in
+    let at = IsPartitionPoint-from_clause p ts c.partition_point.result c.partition_point.ensures.partitioned (parted p (before_falls c.args.channel.now c.args.slot) ts c.requires) (λ a r q h. search rules) in
+    point p ts c.partition_point.result c.partition_point.ensures.bound at
