@@ -1,0 +1,4 @@
+pub mod Arenas
+pub mod Ascending
+pub mod Counted
+pub mod Placing
