@@ -26,6 +26,13 @@ counts_in_front x c cs ds r = go (bytes_eq c x) refl
     go true is = rw is (ap suc r)
     go false is = rw is r
 
+-- another one in front isn't counted
+skipped : (x c : List ℕ) (cs : List (List ℕ)) → bytes_eq c x ≡ false → held_times x (c ∷ cs) ≡ held_times x cs
+skipped x c cs differ = rw differ refl
+
+not_first : (channel c : List ℕ) (cs : List (List ℕ)) → bytes_eq c channel ≡ false → without_one channel (c ∷ cs) ≡ c ∷ without_one channel cs
+not_first channel c cs differ = rw differ refl
+
 module _ (channel : List ℕ) where
   more_here : (cs : List (List ℕ)) → held_times channel (with_one channel cs) ≡ held_times channel cs + 1
   more_here [] = rw (same_self channel) refl
@@ -49,7 +56,7 @@ module _ (channel : List ℕ) where
     where
       go : (b : Bool) → bytes_eq c channel ≡ b → held_times channel (without_one channel cs) ≡ held_times channel cs - 1 → held_times channel (without_one channel (c ∷ cs)) ≡ held_times channel (c ∷ cs) - 1
       go true is r = rw is (one_less (held_times channel cs))
-      go false is r = rw is r
+      go false is r = ap (held_times channel) (not_first channel c cs is) ∙ skipped channel c (without_one channel cs) is ∙ r ∙ ap (λ n. n - 1) (sym (skipped channel c cs is))
 
   fewer_there : (x : List ℕ) → bytes_eq channel x ≡ false → (cs : List (List ℕ)) → held_times x (without_one channel cs) ≡ held_times x cs
   fewer_there x other [] = refl

@@ -1,11 +1,11 @@
 -- Channels at their place.
 use Rattle.std.proofs.Common.{◌≡◌, ℕ, zero, suc, ◌<◌, ◌≤◌, Bool, true, false, List, [], ◌∷◌, length, Result, Ok, Err, refl, sym, ap, subst, ◌∙◌, arith}
-use Rattle.std.specs.Prelude.{if◌then◌else◌, ◌||◌, slice_get, slice_index_or, OnOk, OnErr}
+use Rattle.std.specs.Prelude.{◌||◌, slice_get, slice_index_or, OnOk, OnErr}
 use Rattle.std.specs.Str.{bytes_eq}
 use Rattle.std.specs.List.{insert, remove}
 use Rattle.std.specs.List.Sorted.{IsPartitionedBy, IsPartitionPoint}
 use Rattle.std.specs.declared.cmp.Ordering.TheVariants.{Greater}
-use Rattle.std.specs.Ordering.{is_le, is_lt, nat_cmp}
+use Rattle.std.specs.Ordering.{is_le, nat_cmp}
 use Rattle.std.specs.Cmp.Lexicographic.{slice_cmp}
 use Rattle.instance_store.specs.Channels.{Ascend, holds, with_one, without_one}
 use Rattle.instance_store.specs.Places.{in_front, is_at, is_before}
@@ -81,26 +81,32 @@ module _ (channel : List ℕ) where
       go true is r h = let never : true ≡ false = rw is at h in cc
       go false is r h = rw is (ap (λ ds. c ∷ ds) (r (rw is at h)))
 
-  -- ---- changed there
+  -- ---- changed there, where the list was read as `seen`
+
+  module _ (cs seen : List (List ℕ)) (same : seen ≡ cs) (m : ℕ) where
+    stands : m ≡ in_front (is_before channel) seen → m ≡ in_front (is_before channel) cs
+    stands place = place ∙ ap (in_front (is_before channel)) same
+
+    told : (b : Bool) → m ≡ in_front (is_before channel) seen → b ≡ is_at channel (slice_get seen m) → b ≡ is_at channel (slice_get cs (in_front (is_before channel) cs))
+    told b place is = is ∙ ap (λ ds. is_at channel (slice_get ds m)) same ∙ ap (λ k. is_at channel (slice_get cs k)) (stands place)
+
+    pub put_in : {A E : Type 0} (r : Result A E) (new : List (List ℕ)) (named : List ℕ) → named ≡ channel → m ≡ in_front (is_before named) seen → OnOk r (new ≡ insert cs m channel) → OnOk r (new ≡ with_one channel cs)
+    put_in (Ok x) new named is place put = put ∙ ap (λ k. insert cs k channel) (stands (place ∙ ap (λ n. in_front (is_before n) seen) is)) ∙ put_at cs
+    put_in (Err e) new named is place put = tt
+
+    pub told_at : (b : Bool) → Ascend cs → m ≡ in_front (is_before channel) seen → b ≡ is_at channel (slice_get seen m) → b ≡ holds channel cs
+    told_at b a place is = told b place is ∙ held_at cs a
+
+    pub taken : (new : List (List ℕ)) → m ≡ in_front (is_before channel) seen → true ≡ is_at channel (slice_get seen m) → new ≡ remove cs m → new ≡ without_one channel cs
+    taken new place is rest = rest ∙ ap (remove cs) (stands place) ∙ removed_at cs (sym (told true place is))
+
+    pub kept : Ascend cs → m ≡ in_front (is_before channel) seen → false ≡ is_at channel (slice_get seen m) → cs ≡ without_one channel cs
+    kept a place is = sym (without_none cs (sym (told_at false a place is)))
 
   module _ (cs : List (List ℕ)) where
-    pub put_in : {A E : Type 0} (r : Result A E) (new : List (List ℕ)) (m : ℕ) → m ≡ in_front (is_before channel) cs → OnOk r (new ≡ insert cs m channel) → OnOk r (new ≡ with_one channel cs)
-    put_in (Ok x) new m place put = put ∙ ap (λ k. insert cs k channel) place ∙ put_at cs
-    put_in (Err e) new m place put = tt
-
     pub put_order : {A E : Type 0} (r : Result A E) (new : List (List ℕ)) → Ascend cs → OnOk r (new ≡ with_one channel cs) → OnErr r (new ≡ cs) → Ascend new
     put_order (Ok x) new a ok err = subst Ascend (sym ok) (with_order channel cs a)
     put_order (Err e) new a ok err = subst Ascend (sym err) a
-
-    pub told_at : (b : Bool) (m : ℕ) → Ascend cs → m ≡ in_front (is_before channel) cs → b ≡ is_at channel (slice_get cs m) → b ≡ holds channel cs
-    told_at b m a place is = is ∙ ap (λ k. is_at channel (slice_get cs k)) place ∙ held_at cs a
-
-    pub taken : (b : Bool) (new : List (List ℕ)) (m : ℕ) → m ≡ in_front (is_before channel) cs → b ≡ is_at channel (slice_get cs m) → b ≡ true → new ≡ remove cs m → new ≡ without_one channel cs
-    taken b new m place is there rest =
-        rest ∙ ap (remove cs) place ∙ removed_at cs (sym (is ∙ ap (λ k. is_at channel (slice_get cs k)) place) ∙ there)
-
-    pub kept : (b : Bool) (m : ℕ) → Ascend cs → m ≡ in_front (is_before channel) cs → b ≡ is_at channel (slice_get cs m) → b ≡ false → cs ≡ without_one channel cs
-    kept b m a place is missing = sym (without_none cs (sym (told_at b m a place is) ∙ missing))
 
     pub fewer_order : (new : List (List ℕ)) → Ascend cs → new ≡ without_one channel cs → Ascend new
     fewer_order new a is = subst Ascend (sym is) (without_order channel cs a)

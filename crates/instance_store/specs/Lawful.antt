@@ -1,5 +1,5 @@
 -- What holds of the channels that an instance holds.
-use Rattle.std.specs.Prelude.{◌≡◌, ℕ, ◌+◌, ◌-◌, ◌<◌, false, nat_lt, List}
+use Rattle.std.specs.Prelude.{◌≡◌, ℕ, ◌+◌, ◌-◌, false, nat_lt, List}
 use Rattle.std.specs.Str.{bytes_eq}
 use Rattle.instance_store.specs.Channels.{Ascend, held_times, holds, with_one, without_one}
 
