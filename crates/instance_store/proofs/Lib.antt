@@ -1,4 +1,3 @@
-pub mod Arenas
 pub mod Ascending
 pub mod Counted
 pub mod Placing

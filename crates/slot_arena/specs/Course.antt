@@ -1,5 +1,5 @@
 -- What befalls a store in the course of time.
-use Rattle.std.specs.Prelude.{◌≡◌, ◌⊎◌, ℕ, ◌≤◌, List, [], ◌∷◌, Some, None, IsSome, slice_set}
+use Rattle.std.specs.Prelude.{◌≡◌, ◌⊎◌, ◌≤◌, List, [], ◌∷◌, Some, None, IsSome, slice_set}
 use Rattle.slot_arena.specs.declared.key.Key.{Key}
 use Rattle.slot_arena.specs.Arena.{Arena, found, Takes, Returns}
 

@@ -1,5 +1,5 @@
 -- What a store ends as, where a `&mut` to one of its values is returned.
-use Rattle.std.specs.Prelude.{Result, Some, slice_set}
+use Rattle.std.specs.Prelude.{Result}
 use Rattle.std.specs.Borrow.{Lends, LendsIfOk, Fml, RattleType, MutBor}
 use Rattle.slot_arena.specs.declared.key.Key.{Key}
 use Rattle.slot_arena.specs.declared.key.Stale.{Stale}
