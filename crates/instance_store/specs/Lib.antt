@@ -1,0 +1,5 @@
+pub mod Changes
+pub mod Channels
+pub mod Lawful
+pub mod Lends
+pub mod Places
