@@ -1,0 +1,3 @@
+pub mod Lined
+pub mod Values
+pub mod Words
