@@ -16,7 +16,7 @@ use Rattle.span_text.specs.declared.spot.Spot.{Spot}
 use Rattle.expr_parser.specs.Tokens.{row_of, spot_at}
 use Rattle.decl_parser.specs.declared.region.Region.{Region}
 use Rattle.decl_parser.specs.declared.region.Region.TheVariants as region
-use Rattle.decl_parser.specs.Statements.{IsStmt}
+use Rattle.stmt_parser.specs.Statements.{IsStmt}
 use Rattle.decl_parser.specs.Units as tree
 use Rattle.decl_parser.specs.Units.{IsMember, IsDeclaration, IsEnd, IsUnit}
 use Rattle.decl_parser.specs.Pieces.{IsMonitorHead, IsActionHead, IsPiece, IsLongestPiece, Cut, Start, Next, IsFaultAt, IsFault}

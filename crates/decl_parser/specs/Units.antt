@@ -30,9 +30,10 @@ use Rattle.expr_parser.specs.Rules.{Placed, Enclosed}
 use Rattle.expr_parser.specs.Words.{parenthesis, closing_parenthesis, comma}
 use Rattle.expr_parser.specs.Types.{IsType}
 use Rattle.expr_parser.specs.Grammar.{IsExpr}
-use Rattle.decl_parser.specs.Words.{semicolon, assigns, action_word, event_word, monitor_word, returns_word}
-use Rattle.decl_parser.specs.Rules.{Before, Braced}
-use Rattle.decl_parser.specs.Statements.{IsName, IsTyped, IsStmt}
+use Rattle.command_parser.specs.Words.{semicolon, assigns, action_word, event_word, monitor_word, returns_word}
+use Rattle.command_parser.specs.Rules.{Before, Braced}
+use Rattle.command_parser.specs.Commands.{IsName, IsTyped}
+use Rattle.stmt_parser.specs.Statements.{IsStmt}
 
 abbrev pub field_of : TypeExpr × Name → FieldDecl
 field_of x = record { shape = x.0; name = x.1 }

@@ -4,12 +4,12 @@ ghost use Rattle.std.specs.Prelude.{◌≡◌, ◌-◌, [], length, IfOk};
 ghost use Rattle.grammar_forms.specs.Reader.{behind, many};
 ghost use Rattle.expr_parser.specs.Tokens.{row_of};
 ghost use Rattle.expr_parser.specs.Words.{comma};
-ghost use Rattle.decl_parser.specs.Reading.{stmt_at};
+ghost use Rattle.stmt_parser.specs.Reading.{stmt_at};
 ghost use Rattle.decl_parser.specs.Declaring as read;
 
-use crate::part::{name, typed};
-use crate::rules::stmt;
-use crate::word;
+use command_parser::{name, typed};
+use stmt_parser::stmt;
+use command_parser::word;
 use epl_lexer::Token;
 use epl_tree::{ActionDecl, List, Name, Param, Params, Stmts, TypeExpr};
 use expr_parser::token::{keyword_at, sign_at, spot_at};
@@ -170,7 +170,7 @@ fn statements(alloc: Global, tokens: &[Token], from: usize) -> Result<(Stmts, us
     Ok((found, at))
 }
 
-#[tactic(auto, unfolding(crate::specs::Declaring::body, crate::specs::Reader::braced))]
+#[tactic(auto, unfolding(crate::specs::Declaring::body, command_parser::specs::Reader::braced))]
 fn body(alloc: Global, tokens: &[Token], at: usize) -> Result<Option<(Stmts, usize)>, AllocError>
     ensures { IfOk result (λ r. r ≡ read.body tokens.now at) }
 {

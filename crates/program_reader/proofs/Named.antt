@@ -17,7 +17,7 @@ use Rattle.epl_tree.specs.declared.unit.Declaration.TheVariants as declaration
 use Rattle.epl_tree.specs.declared.unit.EventDecl.{EventDecl}
 use Rattle.epl_tree.specs.declared.unit.Unit.{Unit as Tree}
 use Rattle.grammar_forms.specs.Rule.{Many}
-use Rattle.decl_parser.specs.Statements.{IsName as IsNameForm}
+use Rattle.command_parser.specs.Commands.{IsName as IsNameForm}
 use Rattle.decl_parser.specs.Units.{IsEventDecl, IsDeclaration, IsUnit}
 use Rattle.type_table.specs.Kinds.{declarations_of}
 use Rattle.epl_syntax.specs.Trees.{AreTrees}
