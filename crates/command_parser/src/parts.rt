@@ -17,11 +17,7 @@ use std::alloc::{AllocError, Global};
 
 /// An expression that stands alone.
 #[tactic(auto, unfolding(crate::specs::Reading::expr))]
-pub fn expr(
-    alloc: Global,
-    tokens: &[Token],
-    at: usize,
-) -> Result<Option<(Expr, usize)>, AllocError>
+pub fn expr(alloc: Global, tokens: &[Token], at: usize) -> Result<Option<(Expr, usize)>, AllocError>
     ensures { IfOk result (λ r. r ≡ read.expr tokens.now at) }
 {
     expr_at(alloc, tokens, MAX_DEPTH, Part::Whole, at)
@@ -29,11 +25,7 @@ pub fn expr(
 
 /// A name with its spot.
 #[tactic(auto, unfolding(crate::specs::Reading::name_read))]
-pub fn name(
-    alloc: Global,
-    tokens: &[Token],
-    at: usize,
-) -> Result<Option<(Name, usize)>, AllocError>
+pub fn name(alloc: Global, tokens: &[Token], at: usize) -> Result<Option<(Name, usize)>, AllocError>
     ensures { IfOk result (λ r. r ≡ read.name_read tokens.now at) }
 {
     let spot = spot_at(tokens, at);

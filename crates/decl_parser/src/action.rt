@@ -7,14 +7,13 @@ ghost use Rattle.expr_parser.specs.Words.{comma};
 ghost use Rattle.stmt_parser.specs.Reading.{stmt_at};
 ghost use Rattle.decl_parser.specs.Declaring as read;
 
-use command_parser::{name, typed};
-use stmt_parser::stmt;
-use command_parser::word;
+use command_parser::{name, typed, word};
 use epl_lexer::Token;
 use epl_tree::{ActionDecl, List, Name, Param, Params, Stmts, TypeExpr};
 use expr_parser::token::{keyword_at, sign_at, spot_at};
 use expr_parser::{MAX_DEPTH, type_at};
 use std::alloc::{AllocError, Global};
+use stmt_parser::stmt;
 
 #[tactic(auto, unfolding(crate::specs::Declaring::param))]
 fn param(alloc: Global, tokens: &[Token], at: usize) -> Result<Option<(Param, usize)>, AllocError>

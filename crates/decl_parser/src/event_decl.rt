@@ -4,8 +4,7 @@ ghost use Rattle.std.specs.Prelude.{◌≡◌, ◌-◌, [], length, IfOk};
 ghost use Rattle.grammar_forms.specs.Reader.{many};
 ghost use Rattle.decl_parser.specs.Declaring as read;
 
-use command_parser::{name, typed};
-use command_parser::word;
+use command_parser::{name, typed, word};
 use epl_lexer::Token;
 use epl_tree::{EventDecl, FieldDecl, FieldDecls, List, Name};
 use expr_parser::token::{keyword_at, sign_at, spot_at};

@@ -6,8 +6,7 @@ ghost use Rattle.decl_parser.specs.Declaring as read;
 
 use crate::action::action;
 use crate::event_decl::event_decl;
-use command_parser::{expr, name, typed};
-use command_parser::word;
+use command_parser::{expr, name, typed, word};
 use epl_lexer::Token;
 use epl_tree::{Declaration, Expr, GlobalDecl, List, Member, Members, MonitorDecl, Name, TypeExpr};
 use expr_parser::token::{keyword_at, sign_at, spot_at};

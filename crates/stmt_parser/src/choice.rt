@@ -9,9 +9,8 @@ ghost use Rattle.command_parser.specs.Reading as part;
 ghost use Rattle.stmt_parser.specs.Reading as read;
 ghost use Rattle.stmt_parser.specs.Nests.{Nests};
 
-use command_parser::{expr, name, sees_else};
 use crate::rules::Rules;
-use command_parser::word;
+use command_parser::{expr, name, sees_else, word};
 use epl_lexer::Token;
 use epl_tree::{Boxed, Expr, Name, Stmt, StmtNode};
 use expr_parser::token::{keyword_at, spot_at};

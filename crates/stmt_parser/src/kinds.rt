@@ -4,9 +4,8 @@ ghost use Rattle.std.specs.Prelude.{◌≡◌, IfOk};
 ghost use Rattle.stmt_parser.specs.Reading as read;
 ghost use Rattle.stmt_parser.specs.Nests.{Nests};
 
-use command_parser::call;
-use command_parser::command;
 use crate::rules::Rules;
+use command_parser::{call, command};
 use epl_lexer::Token;
 use epl_tree::{Stmt, StmtNode};
 use expr_parser::token::spot_at;

@@ -10,10 +10,8 @@ ghost use Rattle.stmt_parser.specs.Nests.{Nests};
 
 use crate::assigned::Assigned;
 use crate::event::boxed_event_at;
-use command_parser::{ended, typed};
-use command_parser::place;
 use crate::rules::Rules;
-use command_parser::word;
+use command_parser::{ended, place, typed, word};
 use epl_lexer::Token;
 use epl_tree::{Boxed, EventExpr, Listening, Name, Place, Stmt, StmtNode, TypeExpr};
 use expr_parser::token::{keyword_at, sign_at, spot_at};

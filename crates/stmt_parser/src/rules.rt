@@ -44,11 +44,7 @@ pub(crate) fn stmt_at(
 }
 
 /// A statement of an outermost block.
-pub fn stmt(
-    alloc: Global,
-    tokens: &[Token],
-    at: usize,
-) -> Result<Option<(Stmt, usize)>, AllocError>
+pub fn stmt(alloc: Global, tokens: &[Token], at: usize) -> Result<Option<(Stmt, usize)>, AllocError>
     ensures { IfOk result (λ r. r ≡ read.stmt_at tokens.now 200 at) }
 {
     stmt_at(alloc, tokens, MAX_DEPTH, at)
