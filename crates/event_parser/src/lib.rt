@@ -3,6 +3,7 @@
 
 mod chain;
 mod constraint;
+mod discards;
 mod duration;
 mod head;
 mod part;
@@ -12,5 +13,6 @@ mod template;
 mod test;
 mod word;
 
+pub use discards::discard_event;
 pub use part::EventPart;
 pub use rules::{MAX_DEPTH, event_at};

@@ -2,6 +2,7 @@
 #![tactic(auto)]
 
 mod arithmetic;
+mod discards;
 mod literal;
 mod logic;
 pub mod operator;
@@ -13,6 +14,7 @@ pub mod token;
 mod types;
 mod word;
 
+pub use discards::{discard_expression, discard_type};
 pub use part::Part;
 pub use rules::{arguments_at, expr_at};
 pub use types::{MAX_DEPTH, type_at};
