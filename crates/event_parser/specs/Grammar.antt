@@ -19,8 +19,8 @@ use Rattle.expr_parser.specs.Words.{parenthesis, closing_parenthesis, and_word, 
 use Rattle.expr_parser.specs.Rules.{Placed, Joined}
 use Rattle.event_parser.specs.declared.part.EventPart.{EventPart}
 use Rattle.event_parser.specs.declared.part.EventPart.TheVariants as part
-use Rattle.event_parser.specs.Words.{arrow, all_word, wait_word}
-use Rattle.event_parser.specs.Templates.{IsSpan, IsTemplate}
+use Rattle.template_parser.specs.Words.{arrow, all_word, wait_word}
+use Rattle.template_parser.specs.Templates.{IsSpan, IsTemplate}
 
 -- An event expression with its spot.
 abbrev pub event : Spot → EventNode → EventExpr

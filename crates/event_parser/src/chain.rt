@@ -4,7 +4,7 @@ ghost use Rattle.std.specs.Prelude.{◌≡◌, ◌-◌, [], length, IfOk};
 ghost use Rattle.grammar_forms.specs.Reader.{behind, many};
 ghost use Rattle.expr_parser.specs.Tokens.{row_of};
 ghost use Rattle.expr_parser.specs.Words as word;
-ghost use Rattle.event_parser.specs.Words as event_word;
+ghost use Rattle.template_parser.specs.Words as event_word;
 ghost use Rattle.event_parser.specs.Grammar as tree;
 ghost use Rattle.event_parser.specs.Reading as read;
 ghost use Rattle.event_parser.specs.Reading.{event_at};
@@ -12,11 +12,11 @@ ghost use Rattle.event_parser.specs.Nests.{NestsEvents};
 
 use crate::part::EventPart;
 use crate::rules::EventRules;
-use crate::word;
 use epl_lexer::Token;
 use epl_tree::{Boxed, EventExpr, EventExprs, EventNode, List, Spot};
 use expr_parser::token::{keyword_at, sign_at, spot_at};
 use std::alloc::{AllocError, Global};
+use template_parser::word;
 
 fn and_of(
     alloc: Global,

@@ -12,10 +12,10 @@ use Rattle.expr_parser.specs.Tokens.{row_of, names, decimals}
 use Rattle.expr_parser.specs.Words.{parenthesis, closing_parenthesis}
 use Rattle.expr_parser.proofs.Items.{inside, good_name, good_decimal, good_placed, good_enclosed}
 use Rattle.expr_parser.proofs.Laws.{sum_starts, sum_ext}
-use Rattle.event_parser.specs.Words.{as_word, completed_word, unmatched_word, within_word}
-use Rattle.event_parser.specs.Templates.{declared, duration, clauses_of, template_of, IsDuration, IsSpan, IsAs, IsWithin, IsClauses, IsConstraints, IsPattern, IsTemplate}
-use Rattle.event_parser.specs.Reading.{duration_node, duration_at, span, declared_name, as_clause, within_clause, as_first, within_first, clauses, constraints, name_and_constraints, pattern_at, template_at}
-use Rattle.event_parser.proofs.ConstraintLaws.{good_sum, good_constraint_list}
+use Rattle.template_parser.specs.Words.{as_word, completed_word, unmatched_word, within_word}
+use Rattle.template_parser.specs.Templates.{declared, duration, clauses_of, template_of, IsDuration, IsSpan, IsAs, IsWithin, IsClauses, IsConstraints, IsPattern, IsTemplate}
+use Rattle.template_parser.specs.Reading.{duration_node, duration_at, span, declared_name, as_clause, within_clause, as_first, within_first, clauses, constraints, name_and_constraints, pattern_at, template_at}
+use Rattle.template_parser.proofs.ConstraintLaws.{good_sum, good_constraint_list}
 
 -- what begins a clause
 abbrev pub clause_words : List ℕ

@@ -1,7 +1,7 @@
 //! The operators of constraints.
 
 ghost use Rattle.std.specs.Prelude.{◌≡◌};
-ghost use Rattle.event_parser.specs.Reading as read;
+ghost use Rattle.template_parser.specs.Reading as read;
 
 use crate::word;
 use epl_lexer::Token;

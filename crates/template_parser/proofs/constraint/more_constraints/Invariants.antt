@@ -2,8 +2,8 @@ use Rattle.std.proofs.Common.{◌≡◌, ◌-◌, length}
 use Rattle.grammar_forms.specs.Reader.{behind, many}
 use Rattle.expr_parser.specs.Tokens.{row_of}
 use Rattle.expr_parser.specs.Words.{comma}
-use Rattle.event_parser.specs.Reading.{constraint_at}
-use Rattle.event_parser.proofs.constraint.more_constraints.Given as goal
+use Rattle.template_parser.specs.Reading.{constraint_at}
+use Rattle.template_parser.proofs.constraint.more_constraints.Given as goal
 
 abbrev pub invariant-items : goal.invariant-items
 invariant-items l =

@@ -4,8 +4,8 @@ ghost use Rattle.std.specs.Prelude.{◌≡◌, ◌-◌, [], ◌∷◌, length, I
 ghost use Rattle.grammar_forms.specs.Reader.{item_of, made, behind, many};
 ghost use Rattle.expr_parser.specs.Tokens.{row_of};
 ghost use Rattle.expr_parser.specs.Words as word;
-ghost use Rattle.event_parser.specs.Words as event_word;
-ghost use Rattle.event_parser.specs.Reading as read;
+ghost use Rattle.template_parser.specs.Words as event_word;
+ghost use Rattle.template_parser.specs.Reading as read;
 
 use crate::head::head_at;
 use crate::range::{range_at, sum_at};

@@ -21,8 +21,8 @@ use Rattle.expr_parser.specs.Tokens.{row_of, Takes}
 use Rattle.expr_parser.specs.Words.{parenthesis, closing_parenthesis, bracket, closing_bracket, colon, equals, less, at_most, greater, at_least, times}
 use Rattle.expr_parser.specs.Rules.{Placed}
 use Rattle.expr_parser.specs.Grammar.{IsSumAlone}
-use Rattle.event_parser.specs.Words.{in_word}
-use Rattle.event_parser.specs.Rules.{Unless}
+use Rattle.template_parser.specs.Words.{in_word}
+use Rattle.template_parser.specs.Rules.{Unless}
 
 -- A constraint with its spot.
 abbrev pub constraint : Spot → ConstraintNode → Constraint

@@ -4,7 +4,7 @@ ghost use Rattle.std.specs.Prelude.{◌≡◌, IfOk};
 ghost use Rattle.grammar_forms.specs.Reader.{item_of, behind};
 ghost use Rattle.expr_parser.specs.Tokens.{row_of};
 ghost use Rattle.expr_parser.specs.Words as word;
-ghost use Rattle.event_parser.specs.Reading as read;
+ghost use Rattle.template_parser.specs.Reading as read;
 
 use crate::range::sum_at;
 use crate::test::test_at;

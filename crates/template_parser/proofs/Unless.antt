@@ -3,7 +3,7 @@ use Rattle.std.proofs.Common.{◌≡◌, ℕ, List, Option, Some, None, refl, ap
 use Rattle.grammar_forms.specs.Rule.{Row}
 use Rattle.grammar_forms.specs.Reader.{Reader}
 use Rattle.grammar_forms.specs.Good.{Good}
-use Rattle.event_parser.specs.Rules.{Unless, unless}
+use Rattle.template_parser.specs.Rules.{Unless, unless}
 
 unless_some : {A B : Type 0} (o : Option (B × ℕ)) (o' : Option (A × ℕ)) (x : A × ℕ) → unless o o' ≡ Some x → (o ≡ None) × (o' ≡ Some x)
 unless_some None o' x h = (refl, h)

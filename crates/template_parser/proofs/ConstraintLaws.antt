@@ -17,10 +17,10 @@ use Rattle.expr_parser.specs.Words.{parenthesis, closing_parenthesis, bracket, c
 use Rattle.expr_parser.specs.Grammar.{IsSumAlone}
 use Rattle.expr_parser.proofs.Items.{inside, good_name, good_word, good_placed}
 use Rattle.expr_parser.proofs.Laws.{sum_starts, sum_ext, good_sum_alone}
-use Rattle.event_parser.specs.Words.{in_word}
-use Rattle.event_parser.specs.Constraints.{constraint, low_of, high_of, range_of, IsOrder, IsTest, IsOpening, IsClosing, IsLow, IsHigh, IsRange, IsOrdered, IsNamedTest, IsNamedRange, IsRangeOrNamed, IsRangeHead, IsMark, IsNamedHead, IsHead, IsPlain, IsConstraint}
-use Rattle.event_parser.specs.Reading.{sum_at, order, any_test, opening, closing, low, high, range, ordered, tested, named_test, named_range, range_or_named, sum_and_colon, range_head, mark, named_head, head, plain, constraint_node, constraint_at, constraint_list}
-use Rattle.event_parser.proofs.Unless.{good_unless}
+use Rattle.template_parser.specs.Words.{in_word}
+use Rattle.template_parser.specs.Constraints.{constraint, low_of, high_of, range_of, IsOrder, IsTest, IsOpening, IsClosing, IsLow, IsHigh, IsRange, IsOrdered, IsNamedTest, IsNamedRange, IsRangeOrNamed, IsRangeHead, IsMark, IsNamedHead, IsHead, IsPlain, IsConstraint}
+use Rattle.template_parser.specs.Reading.{sum_at, order, any_test, opening, closing, low, high, range, ordered, tested, named_test, named_range, range_or_named, sum_and_colon, range_head, mark, named_head, head, plain, constraint_node, constraint_at, constraint_list}
+use Rattle.template_parser.proofs.Unless.{good_unless}
 
 -- what orders
 abbrev pub orders : List ℕ

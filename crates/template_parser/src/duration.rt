@@ -1,7 +1,7 @@
 //! Durations.
 
 ghost use Rattle.std.specs.Prelude.{◌≡◌, IfOk};
-ghost use Rattle.event_parser.specs.Reading as read;
+ghost use Rattle.template_parser.specs.Reading as read;
 
 use crate::range::sum_at;
 use crate::word;
@@ -44,7 +44,7 @@ fn duration_at(
 
 /// A duration in parentheses at a place, and the place behind them.
 #[tactic(auto, unfolding(crate::specs::Reading::span, grammar_forms::specs::Reader::within))]
-pub(crate) fn span_at(
+pub fn span_at(
     alloc: Global,
     tokens: &[Token],
     at: usize,

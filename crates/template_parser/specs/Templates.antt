@@ -22,8 +22,8 @@ use Rattle.expr_parser.specs.Tokens.{row_of, Takes}
 use Rattle.expr_parser.specs.Words.{parenthesis, closing_parenthesis, comma}
 use Rattle.expr_parser.specs.Rules.{Placed, Enclosed, listed}
 use Rattle.expr_parser.specs.Grammar.{IsSumAlone}
-use Rattle.event_parser.specs.Words.{as_word, completed_word, unmatched_word, within_word}
-use Rattle.event_parser.specs.Constraints.{IsConstraint}
+use Rattle.template_parser.specs.Words.{as_word, completed_word, unmatched_word, within_word}
+use Rattle.template_parser.specs.Constraints.{IsConstraint}
 
 -- A name that is declared, with its spot.
 abbrev pub declared : Spot → List ℕ → Name

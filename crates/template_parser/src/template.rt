@@ -3,8 +3,8 @@
 ghost use Rattle.std.specs.Prelude.{◌≡◌, IfOk};
 ghost use Rattle.grammar_forms.specs.Reader.{made, behind};
 ghost use Rattle.expr_parser.specs.Tokens.{row_of, keyword};
-ghost use Rattle.event_parser.specs.Templates as tree;
-ghost use Rattle.event_parser.specs.Reading as read;
+ghost use Rattle.template_parser.specs.Templates as tree;
+ghost use Rattle.template_parser.specs.Reading as read;
 
 use crate::constraint::constraints_at;
 use crate::duration::span_at;
@@ -204,7 +204,7 @@ fn pattern_behind(
 
 /// A template at a place, and the place behind it.
 #[tactic(auto, unfolding(crate::specs::Reading::template_at))]
-pub(crate) fn template_at(
+pub fn template_at(
     alloc: Global,
     tokens: &[Token],
     at: usize,
