@@ -27,11 +27,11 @@ use Rattle.epl_tree.specs.declared.statement.StmtNode.{StmtNode}
 use Rattle.epl_tree.specs.declared.statement.StmtNode.TheVariants as s
 use Rattle.epl_tree.specs.declared.types.TypeExpr.{TypeExpr}
 use Rattle.span_text.specs.declared.spot.Spot.{Spot}
-use Rattle.expr_parser.specs.Tokens.{row_of, Takes}
-use Rattle.expr_parser.specs.Rules.{Placed}
-use Rattle.expr_parser.specs.Words.{brace, bracket, closing_bracket, point}
-use Rattle.expr_parser.specs.Types.{IsType}
-use Rattle.expr_parser.specs.Grammar.{suffix, IsArguments, IsExpr, IsExprAt, IsPostfixAlone}
+use Rattle.primary_parser.specs.Tokens.{row_of, Takes}
+use Rattle.primary_parser.specs.Rules.{Placed}
+use Rattle.primary_parser.specs.Words.{brace, bracket, closing_bracket, point}
+use Rattle.primary_parser.specs.Types.{IsType}
+use Rattle.primary_parser.specs.Grammar.{suffix, IsArguments, IsExpr, IsExprAt, IsPostfixAlone}
 use Rattle.command_parser.specs.Words.{semicolon, at_word, break_word, continue_word, die_word, log_word, monitor_word, print_word, return_word, route_word, send_word, spawn_word, to_word, crit_letters, fatal_letters, error_letters, warn_letters, info_letters, debug_letters, trace_letters}
 use Rattle.command_parser.specs.Rules.{Before, Unless}
 

@@ -5,8 +5,8 @@ use Rattle.grammar_forms.specs.Reader.{Reader, made, and_then, and_many, item_of
 use Rattle.epl_lexer.specs.declared.token.Token.{Token}
 use Rattle.epl_tree.specs.declared.statement.Level.{Level}
 use Rattle.epl_tree.specs.declared.statement.Level.TheVariants as level
-use Rattle.expr_parser.specs.Words.{brace, closing_brace}
-use Rattle.expr_parser.specs.Reader.{name}
+use Rattle.primary_parser.specs.Words.{brace, closing_brace}
+use Rattle.primary_parser.specs.Reader.{name}
 use Rattle.command_parser.specs.Words.{crit_letters, fatal_letters, error_letters, warn_letters, info_letters, debug_letters, trace_letters}
 
 -- One before an item of a class.

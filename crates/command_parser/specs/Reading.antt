@@ -12,12 +12,12 @@ use Rattle.epl_tree.specs.declared.statement.Place.{Place}
 use Rattle.epl_tree.specs.declared.statement.StmtNode.{StmtNode}
 use Rattle.epl_tree.specs.declared.statement.StmtNode.TheVariants as s
 use Rattle.epl_tree.specs.declared.types.TypeExpr.{TypeExpr}
-use Rattle.expr_parser.specs.declared.part.Part.TheVariants as part
-use Rattle.expr_parser.specs.Tokens.{row_of}
-use Rattle.expr_parser.specs.Words.{brace, bracket, closing_bracket, point}
-use Rattle.expr_parser.specs.Grammar.{suffix}
-use Rattle.expr_parser.specs.Reader.{placed, name}
-use Rattle.expr_parser.specs.Reading.{type_at, expr_at, arguments}
+use Rattle.primary_parser.specs.declared.part.Part.TheVariants as part
+use Rattle.primary_parser.specs.Tokens.{row_of}
+use Rattle.primary_parser.specs.Words.{brace, bracket, closing_bracket, point}
+use Rattle.primary_parser.specs.Grammar.{suffix}
+use Rattle.primary_parser.specs.Reader.{placed, name}
+use Rattle.primary_parser.specs.Reading.{type_at, expr_at, arguments}
 use Rattle.command_parser.specs.Words.{semicolon, at_word, break_word, continue_word, die_word, log_word, monitor_word, print_word, return_word, route_word, send_word, spawn_word, to_word}
 use Rattle.command_parser.specs.Commands.{name_of, place_of, ends_with_call}
 use Rattle.command_parser.specs.Reader.{before, unless, level_at}

@@ -1,7 +1,7 @@
 -- Further forms over tokens.
 use Rattle.std.specs.Prelude.{◌≡◌, ℕ, false, List}
 use Rattle.grammar_forms.specs.Rule.{Form, Row, has, Made, Then, Many, IsOf}
-use Rattle.expr_parser.specs.Words.{brace, closing_brace}
+use Rattle.primary_parser.specs.Words.{brace, closing_brace}
 
 -- One before an item of a class, as before a sign.
 abbrev pub Before : {A : Type 0} → Row → List ℕ → Form A → Form A

@@ -1,6 +1,6 @@
 -- The signs and keywords that statements and declarations are written with, by their places in the lexer's tables.
 use Rattle.std.specs.Prelude.{ℕ, List, [], ◌∷◌}
-use Rattle.expr_parser.specs.Tokens.{sign, keyword}
+use Rattle.primary_parser.specs.Tokens.{sign, keyword}
 
 -- `;` and `:=`
 abbrev pub semicolon : List ℕ

@@ -7,8 +7,8 @@ ghost use Rattle.command_parser.specs.Reading as read;
 use crate::word;
 use epl_lexer::Token;
 use epl_tree::{Expr, ExprNode, StmtNode, Suffix, SuffixNode};
-use expr_parser::token::sign_at;
 use expr_parser::{MAX_DEPTH, Part, expr_at};
+use primary_parser::token::sign_at;
 use std::alloc::{AllocError, Global};
 
 fn last_is_method(suffixes: &[Suffix]) -> bool

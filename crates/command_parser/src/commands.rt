@@ -2,8 +2,8 @@
 
 ghost use Rattle.std.specs.Prelude.{◌≡◌, IfOk};
 ghost use Rattle.grammar_forms.specs.Reader.{behind};
-ghost use Rattle.expr_parser.specs.Tokens.{row_of};
-ghost use Rattle.expr_parser.specs.Words as sign;
+ghost use Rattle.primary_parser.specs.Tokens.{row_of};
+ghost use Rattle.primary_parser.specs.Words as sign;
 ghost use Rattle.command_parser.specs.Words as word;
 ghost use Rattle.command_parser.specs.Reader.{before};
 ghost use Rattle.command_parser.specs.Reading as read;
@@ -13,7 +13,7 @@ use crate::parts::{ended, expr, named_call, word_at};
 use crate::word;
 use epl_lexer::Token;
 use epl_tree::{Expr, Exprs, Level, StmtNode, Text};
-use expr_parser::token::{keyword_at, sign_at};
+use primary_parser::token::{keyword_at, sign_at};
 use std::alloc::{AllocError, Global};
 
 #[tactic(auto, unfolding(crate::specs::Reading::returned))]

@@ -5,7 +5,7 @@ ghost use Rattle.command_parser.specs.Reader as read;
 
 use epl_lexer::Token;
 use epl_tree::{Level, Text};
-use expr_parser::token::name_at;
+use primary_parser::token::name_at;
 use std::alloc::{AllocError, Global};
 
 #[tactic(auto, unfolding(crate::specs::Reader::level_of))]

@@ -3,7 +3,7 @@
 ghost use Rattle.std.specs.Prelude.{◌≡◌, IfOk};
 ghost use Rattle.grammar_forms.specs.Rule.{has};
 ghost use Rattle.grammar_forms.specs.Reader.{item_of};
-ghost use Rattle.expr_parser.specs.Tokens.{row_of, keyword};
+ghost use Rattle.primary_parser.specs.Tokens.{row_of, keyword};
 ghost use Rattle.command_parser.specs.Words as word;
 ghost use Rattle.command_parser.specs.Reader.{before};
 ghost use Rattle.command_parser.specs.Reading as read;
@@ -11,8 +11,8 @@ ghost use Rattle.command_parser.specs.Reading as read;
 use crate::word;
 use epl_lexer::Token;
 use epl_tree::{Expr, Exprs, Name, Text, TypeExpr};
-use expr_parser::token::{keyword_at, name_at, sign_at, spot_at};
 use expr_parser::{MAX_DEPTH, Part, arguments_at, expr_at, type_at};
+use primary_parser::token::{keyword_at, name_at, sign_at, spot_at};
 use std::alloc::{AllocError, Global};
 
 /// An expression that stands alone.

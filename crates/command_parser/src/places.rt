@@ -2,16 +2,16 @@
 
 ghost use Rattle.std.specs.Prelude.{◌≡◌, ◌-◌, [], length, IfOk};
 ghost use Rattle.grammar_forms.specs.Reader.{behind, within, many};
-ghost use Rattle.expr_parser.specs.Tokens.{row_of};
-ghost use Rattle.expr_parser.specs.Words as word;
-ghost use Rattle.expr_parser.specs.Reader as token;
+ghost use Rattle.primary_parser.specs.Tokens.{row_of};
+ghost use Rattle.primary_parser.specs.Words as word;
+ghost use Rattle.primary_parser.specs.Reader as token;
 ghost use Rattle.command_parser.specs.Reading as read;
 
 use crate::parts::expr;
 use crate::word;
 use epl_lexer::Token;
 use epl_tree::{Boxed, Expr, List, Place, Suffix, SuffixNode, Suffixes, Text};
-use expr_parser::token::{name_at, sign_at, spot_at};
+use primary_parser::token::{name_at, sign_at, spot_at};
 use std::alloc::{AllocError, Global};
 
 #[tactic(auto, unfolding(grammar_forms::specs::Reader::behind))]

@@ -13,7 +13,7 @@ use Rattle.epl_tree.specs.declared.unit.Member.TheVariants as member
 use Rattle.epl_tree.specs.declared.unit.Param.{Param}
 use Rattle.epl_tree.specs.declared.unit.Unit.{Unit as ProgramFile}
 use Rattle.span_text.specs.declared.spot.Spot.{Spot}
-use Rattle.expr_parser.specs.Tokens.{row_of, spot_at}
+use Rattle.primary_parser.specs.Tokens.{row_of, spot_at}
 use Rattle.decl_parser.specs.declared.region.Region.{Region}
 use Rattle.decl_parser.specs.declared.region.Region.TheVariants as region
 use Rattle.stmt_parser.specs.Statements.{IsStmt}

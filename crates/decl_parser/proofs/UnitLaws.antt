@@ -8,8 +8,8 @@ use Rattle.grammar_forms.proofs.Joined.{good_behind, good_separated}
 use Rattle.epl_lexer.specs.declared.token.Token.{Token}
 use Rattle.epl_tree.specs.declared.unit.Declaration.TheVariants as declaration
 use Rattle.epl_tree.specs.declared.unit.Member.TheVariants as member
-use Rattle.expr_parser.specs.Tokens.{row_of}
-use Rattle.expr_parser.specs.Words.{brace, closing_brace, parenthesis, closing_parenthesis, comma}
+use Rattle.primary_parser.specs.Tokens.{row_of}
+use Rattle.primary_parser.specs.Words.{brace, closing_brace, parenthesis, closing_parenthesis, comma}
 use Rattle.expr_parser.proofs.Items.{inside, good_word, good_placed, good_enclosed}
 use Rattle.expr_parser.proofs.TypeLaws.{type_starts, good_type_alone}
 use Rattle.decl_parser.specs.declared.region.Region.{Region}

@@ -19,10 +19,10 @@ use Rattle.epl_tree.specs.declared.unit.Member.TheVariants as member
 use Rattle.epl_tree.specs.declared.unit.MonitorDecl.{MonitorDecl}
 use Rattle.epl_tree.specs.declared.unit.Param.{Param}
 use Rattle.epl_tree.specs.declared.unit.Unit.{Unit as ProgramFile}
-use Rattle.expr_parser.specs.Tokens.{row_of, kind_at}
-use Rattle.expr_parser.specs.Words.{brace, closing_brace, parenthesis, closing_parenthesis, comma}
-use Rattle.expr_parser.specs.Reader.{placed, enclosed}
-use Rattle.expr_parser.specs.Reading.{type_at}
+use Rattle.primary_parser.specs.Tokens.{row_of, kind_at}
+use Rattle.primary_parser.specs.Words.{brace, closing_brace, parenthesis, closing_parenthesis, comma}
+use Rattle.primary_parser.specs.Reader.{placed, enclosed}
+use Rattle.primary_parser.specs.Reading.{type_at}
 use Rattle.decl_parser.specs.declared.region.Region.{Region}
 use Rattle.decl_parser.specs.declared.region.Region.TheVariants as region
 use Rattle.command_parser.specs.Words.{semicolon, assigns, action_word, else_word, event_word, monitor_word, returns_word}

@@ -2,16 +2,16 @@
 
 ghost use Rattle.std.specs.Prelude.{◌≡◌, ◌-◌, [], length, IfOk};
 ghost use Rattle.grammar_forms.specs.Reader.{behind, many};
-ghost use Rattle.expr_parser.specs.Tokens.{row_of};
-ghost use Rattle.expr_parser.specs.Words.{comma};
+ghost use Rattle.primary_parser.specs.Tokens.{row_of};
+ghost use Rattle.primary_parser.specs.Words.{comma};
 ghost use Rattle.stmt_parser.specs.Reading.{stmt_at};
 ghost use Rattle.decl_parser.specs.Declaring as read;
 
 use command_parser::{name, typed, word};
 use epl_lexer::Token;
 use epl_tree::{ActionDecl, List, Name, Param, Params, Stmts, TypeExpr};
-use expr_parser::token::{keyword_at, sign_at, spot_at};
 use expr_parser::{MAX_DEPTH, type_at};
+use primary_parser::token::{keyword_at, sign_at, spot_at};
 use std::alloc::{AllocError, Global};
 use stmt_parser::stmt;
 
@@ -71,7 +71,7 @@ fn param_list(
     Ok(Some((all, end)))
 }
 
-#[tactic(auto, unfolding(crate::specs::Declaring::params, expr_parser::specs::Reader::enclosed))]
+#[tactic(auto, unfolding(crate::specs::Declaring::params, primary_parser::specs::Reader::enclosed))]
 fn params(alloc: Global, tokens: &[Token], at: usize) -> Result<Option<(Params, usize)>, AllocError>
     ensures { IfOk result (λ r. r ≡ read.params tokens.now at) }
 {

@@ -7,7 +7,7 @@ ghost use Rattle.decl_parser.specs.Declaring as read;
 use command_parser::{name, typed, word};
 use epl_lexer::Token;
 use epl_tree::{EventDecl, FieldDecl, FieldDecls, List, Name};
-use expr_parser::token::{keyword_at, sign_at, spot_at};
+use primary_parser::token::{keyword_at, sign_at, spot_at};
 use std::alloc::{AllocError, Global};
 
 #[tactic(auto, unfolding(crate::specs::Declaring::field, command_parser::specs::Reader::before))]

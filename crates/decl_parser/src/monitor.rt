@@ -9,7 +9,7 @@ use crate::event_decl::event_decl;
 use command_parser::{expr, name, typed, word};
 use epl_lexer::Token;
 use epl_tree::{Declaration, Expr, GlobalDecl, List, Member, Members, MonitorDecl, Name, TypeExpr};
-use expr_parser::token::{keyword_at, sign_at, spot_at};
+use primary_parser::token::{keyword_at, sign_at, spot_at};
 use std::alloc::{AllocError, Global};
 
 #[tactic(auto, unfolding(crate::specs::Declaring::initial_value, grammar_forms::specs::Reader::behind))]

@@ -11,7 +11,7 @@ use crate::region::Region;
 use command_parser::word;
 use epl_lexer::Token;
 use epl_tree::{Name, Params, Stmt, TypeExpr};
-use expr_parser::token::{keyword_at, sign_at};
+use primary_parser::token::{keyword_at, sign_at};
 use std::alloc::{AllocError, Global};
 use stmt_parser::stmt;
 

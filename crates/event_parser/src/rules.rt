@@ -9,7 +9,7 @@ ghost use Rattle.event_parser.specs.Nests.{NestsEvents};
 use crate::part::EventPart;
 use epl_lexer::Token;
 use epl_tree::{Boxed, EventExpr, EventNode};
-use expr_parser::token::{keyword_at, sign_at, spot_at};
+use primary_parser::token::{keyword_at, sign_at, spot_at};
 use std::alloc::{AllocError, Global};
 use template_parser::{span_at, template_at, word};
 

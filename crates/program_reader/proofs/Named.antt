@@ -10,7 +10,7 @@ use Rattle.epl_lexer.specs.declared.token.Token.{Token}
 use Rattle.epl_lexer.specs.Bytes.{from_on, digits, letters, word_bytes}
 use Rattle.epl_lexer.specs.Spelling.{Spells}
 use Rattle.epl_lexer.specs.Tokens.{start_of, Lexes, end_token, AreTokens}
-use Rattle.expr_parser.specs.Tokens.{kind_at}
+use Rattle.primary_parser.specs.Tokens.{kind_at}
 use Rattle.epl_tree.specs.declared.name.Name.{Name as TreeName}
 use Rattle.epl_tree.specs.declared.unit.Declaration.{Declaration}
 use Rattle.epl_tree.specs.declared.unit.Declaration.TheVariants as declaration

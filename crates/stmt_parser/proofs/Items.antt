@@ -16,9 +16,9 @@ use Rattle.epl_lexer.specs.declared.token.Kind.{Kind}
 use Rattle.epl_lexer.specs.declared.token.Kind.TheVariants as kind
 use Rattle.epl_tree.specs.declared.statement.Level.{Level}
 use Rattle.epl_tree.specs.declared.statement.Level.TheVariants as level
-use Rattle.expr_parser.specs.Tokens.{kind_at, row_of, names, Takes}
-use Rattle.expr_parser.specs.Words.{brace, closing_brace}
-use Rattle.expr_parser.specs.Reader.{name_by, name}
+use Rattle.primary_parser.specs.Tokens.{kind_at, row_of, names, Takes}
+use Rattle.primary_parser.specs.Words.{brace, closing_brace}
+use Rattle.primary_parser.specs.Reader.{name_by, name}
 use Rattle.expr_parser.proofs.Items.{inside, good_word, good_name}
 use Rattle.command_parser.specs.Words.{crit_letters, fatal_letters, error_letters, warn_letters, info_letters, debug_letters, trace_letters}
 use Rattle.command_parser.specs.Rules.{Before, Braced, Unless, Unfollowed}

@@ -14,9 +14,9 @@ use Rattle.epl_tree.specs.declared.expression.Expr.{Expr}
 use Rattle.epl_tree.specs.declared.statement.Stmt.{Stmt}
 use Rattle.epl_tree.specs.declared.statement.StmtNode.{StmtNode}
 use Rattle.epl_tree.specs.declared.statement.StmtNode.TheVariants as s
-use Rattle.expr_parser.specs.Tokens.{row_of, names, integers, strings}
-use Rattle.expr_parser.specs.Words.{brace, parenthesis, bracket, point, context_word, false_word, new_word, true_word}
-use Rattle.expr_parser.specs.Grammar.{IsPostfixAlone}
+use Rattle.primary_parser.specs.Tokens.{row_of, names, integers, strings}
+use Rattle.primary_parser.specs.Words.{brace, parenthesis, bracket, point, context_word, false_word, new_word, true_word}
+use Rattle.primary_parser.specs.Grammar.{IsPostfixAlone}
 use Rattle.expr_parser.proofs.Items.{inside, good_name, good_word, good_placed}
 use Rattle.expr_parser.proofs.Laws.{starts, whole_ext, primary_starts, good_expr, good_arguments, good_postfix_alone}
 use Rattle.expr_parser.proofs.TypeLaws.{type_starts, good_type_alone}

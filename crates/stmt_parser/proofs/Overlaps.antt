@@ -18,14 +18,14 @@ use Rattle.epl_tree.specs.declared.statement.Place.{Place}
 use Rattle.epl_tree.specs.declared.statement.Stmt.{Stmt}
 use Rattle.epl_tree.specs.declared.statement.StmtNode.{StmtNode}
 use Rattle.epl_tree.specs.declared.types.TypeExpr.{TypeExpr}
-use Rattle.expr_parser.specs.declared.part.Part.{Part}
-use Rattle.expr_parser.specs.declared.part.Part.TheVariants as part
-use Rattle.expr_parser.specs.Tokens.{row_of, names, integers, strings, kind_at, spot_at, Takes}
-use Rattle.expr_parser.specs.Words.{brace, parenthesis, bracket, closing_bracket, point, boolean_word, context_word, dictionary_word, integer_word, listener_word, sequence_word, string_word, false_word, new_word, true_word}
-use Rattle.expr_parser.specs.Types.{IsType, IsTypeAt}
-use Rattle.expr_parser.specs.Grammar as tree
-use Rattle.expr_parser.specs.Grammar.{IsPrimary, IsSuffix, IsPostfix, IsExpr, IsExprAt, IsPostfixAlone}
-use Rattle.expr_parser.specs.Reading.{expr_at}
+use Rattle.primary_parser.specs.declared.part.Part.{Part}
+use Rattle.primary_parser.specs.declared.part.Part.TheVariants as part
+use Rattle.primary_parser.specs.Tokens.{row_of, names, integers, strings, kind_at, spot_at, Takes}
+use Rattle.primary_parser.specs.Words.{brace, parenthesis, bracket, closing_bracket, point, boolean_word, context_word, dictionary_word, integer_word, listener_word, sequence_word, string_word, false_word, new_word, true_word}
+use Rattle.primary_parser.specs.Types.{IsType, IsTypeAt}
+use Rattle.primary_parser.specs.Grammar as tree
+use Rattle.primary_parser.specs.Grammar.{IsPrimary, IsSuffix, IsPostfix, IsExpr, IsExprAt, IsPostfixAlone}
+use Rattle.primary_parser.specs.Reading.{expr_at}
 use Rattle.expr_parser.proofs.Items.{inside, good_integer, good_quoted, good_name, good_placed}
 use Rattle.expr_parser.proofs.Laws.{primary_starts, starts, postfix_ext, whole_ext, good_expr_alone, good_postfix_alone}
 use Rattle.command_parser.specs.Words.{semicolon, assigns}

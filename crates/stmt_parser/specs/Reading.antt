@@ -9,8 +9,8 @@ use Rattle.epl_tree.specs.declared.statement.Listening.{Listening}
 use Rattle.epl_tree.specs.declared.statement.Stmt.{Stmt}
 use Rattle.epl_tree.specs.declared.statement.StmtNode.{StmtNode}
 use Rattle.epl_tree.specs.declared.statement.StmtNode.TheVariants as s
-use Rattle.expr_parser.specs.Tokens.{row_of}
-use Rattle.expr_parser.specs.Reader.{placed}
+use Rattle.primary_parser.specs.Tokens.{row_of}
+use Rattle.primary_parser.specs.Reader.{placed}
 use Rattle.stmt_parser.specs.declared.assigned.Assigned.{Assigned}
 use Rattle.stmt_parser.specs.declared.assigned.Assigned.TheVariants as right
 use Rattle.command_parser.specs.Words.{semicolon, assigns, else_word, for_word, if_word, in_word, on_word, then_word, while_word}

@@ -28,9 +28,9 @@ use Rattle.epl_tree.specs.declared.statement.StmtNode.{StmtNode}
 use Rattle.epl_tree.specs.declared.statement.StmtNode.TheVariants as s
 use Rattle.epl_tree.specs.declared.types.TypeExpr.{TypeExpr}
 use Rattle.span_text.specs.declared.spot.Spot.{Spot}
-use Rattle.expr_parser.specs.Tokens.{row_of}
-use Rattle.expr_parser.specs.Rules.{Placed}
-use Rattle.expr_parser.specs.Grammar.{IsExpr}
+use Rattle.primary_parser.specs.Tokens.{row_of}
+use Rattle.primary_parser.specs.Rules.{Placed}
+use Rattle.primary_parser.specs.Grammar.{IsExpr}
 use Rattle.event_parser.specs.Grammar.{IsEvent}
 use Rattle.stmt_parser.specs.declared.assigned.Assigned.{Assigned}
 use Rattle.stmt_parser.specs.declared.assigned.Assigned.TheVariants as assigned

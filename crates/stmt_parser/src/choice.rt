@@ -2,7 +2,7 @@
 
 ghost use Rattle.std.specs.Prelude.{◌≡◌, IfOk};
 ghost use Rattle.grammar_forms.specs.Reader.{behind};
-ghost use Rattle.expr_parser.specs.Tokens.{row_of};
+ghost use Rattle.primary_parser.specs.Tokens.{row_of};
 ghost use Rattle.epl_tree.specs.declared.statement.StmtNode.TheVariants as s;
 ghost use Rattle.command_parser.specs.Words as word;
 ghost use Rattle.command_parser.specs.Reading as part;
@@ -13,7 +13,7 @@ use crate::rules::Rules;
 use command_parser::{expr, name, sees_else, word};
 use epl_lexer::Token;
 use epl_tree::{Boxed, Expr, Name, Stmt, StmtNode};
-use expr_parser::token::{keyword_at, spot_at};
+use primary_parser::token::{keyword_at, spot_at};
 use std::alloc::{AllocError, Global};
 
 fn if_of(

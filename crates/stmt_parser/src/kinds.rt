@@ -8,7 +8,7 @@ use crate::rules::Rules;
 use command_parser::{call, command};
 use epl_lexer::Token;
 use epl_tree::{Stmt, StmtNode};
-use expr_parser::token::spot_at;
+use primary_parser::token::spot_at;
 use std::alloc::{AllocError, Global};
 
 impl<'t, F: Fn(Global, &[Token], usize, usize) -> Result<Option<(Stmt, usize)>, AllocError>> Rules<

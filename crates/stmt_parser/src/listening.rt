@@ -2,7 +2,7 @@
 
 ghost use Rattle.std.specs.Prelude.{◌≡◌, IfOk};
 ghost use Rattle.grammar_forms.specs.Reader.{behind, with};
-ghost use Rattle.expr_parser.specs.Tokens.{row_of};
+ghost use Rattle.primary_parser.specs.Tokens.{row_of};
 ghost use Rattle.stmt_parser.specs.Statements as tree;
 ghost use Rattle.command_parser.specs.Words as word;
 ghost use Rattle.stmt_parser.specs.Reading as read;
@@ -14,7 +14,7 @@ use crate::rules::Rules;
 use command_parser::{ended, place, typed, word};
 use epl_lexer::Token;
 use epl_tree::{Boxed, EventExpr, Listening, Name, Place, Stmt, StmtNode, TypeExpr};
-use expr_parser::token::{keyword_at, sign_at, spot_at};
+use primary_parser::token::{keyword_at, sign_at, spot_at};
 use std::alloc::{AllocError, Global};
 
 fn declared_of(shape: TypeExpr, name: Name, initial: Option<Assigned>) -> StmtNode

@@ -9,7 +9,7 @@ use command_parser::word;
 use epl_lexer::Token;
 use epl_tree::{List, Stmt, Stmts};
 use expr_parser::MAX_DEPTH;
-use expr_parser::token::sign_at;
+use primary_parser::token::sign_at;
 use std::alloc::{AllocError, Global};
 
 /// The rules over tokens and a reader of statements that lie in a statement, which is to read at a depth.

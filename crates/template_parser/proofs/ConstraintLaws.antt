@@ -12,9 +12,9 @@ use Rattle.epl_tree.specs.declared.expression.Comparison.TheVariants as comparis
 use Rattle.epl_tree.specs.declared.event.ConstraintNode.{ConstraintNode}
 use Rattle.epl_tree.specs.declared.event.ConstraintNode.TheVariants as c
 use Rattle.epl_tree.specs.declared.event.Range.{Range}
-use Rattle.expr_parser.specs.Tokens.{row_of, names}
-use Rattle.expr_parser.specs.Words.{parenthesis, closing_parenthesis, bracket, closing_bracket, comma, colon, equals, less, at_most, greater, at_least, times}
-use Rattle.expr_parser.specs.Grammar.{IsSumAlone}
+use Rattle.primary_parser.specs.Tokens.{row_of, names}
+use Rattle.primary_parser.specs.Words.{parenthesis, closing_parenthesis, bracket, closing_bracket, comma, colon, equals, less, at_most, greater, at_least, times}
+use Rattle.primary_parser.specs.Grammar.{IsSumAlone}
 use Rattle.expr_parser.proofs.Items.{inside, good_name, good_word, good_placed}
 use Rattle.expr_parser.proofs.Laws.{sum_starts, sum_ext, good_sum_alone}
 use Rattle.template_parser.specs.Words.{in_word}

@@ -8,8 +8,8 @@ use Rattle.epl_lexer.specs.declared.token.Token.{Token}
 use Rattle.epl_tree.specs.declared.event.DurationNode.TheVariants as d
 use Rattle.epl_tree.specs.declared.event.Mode.TheVariants as mode
 use Rattle.epl_tree.specs.declared.event.TemplateClause.TheVariants as clause
-use Rattle.expr_parser.specs.Tokens.{row_of, names, decimals}
-use Rattle.expr_parser.specs.Words.{parenthesis, closing_parenthesis}
+use Rattle.primary_parser.specs.Tokens.{row_of, names, decimals}
+use Rattle.primary_parser.specs.Words.{parenthesis, closing_parenthesis}
 use Rattle.expr_parser.proofs.Items.{inside, good_name, good_decimal, good_placed, good_enclosed}
 use Rattle.expr_parser.proofs.Laws.{sum_starts, sum_ext}
 use Rattle.template_parser.specs.Words.{as_word, completed_word, unmatched_word, within_word}

@@ -17,10 +17,10 @@ use Rattle.epl_tree.specs.declared.event.ConstraintNode.TheVariants as c
 use Rattle.epl_tree.specs.declared.event.Range.{Range}
 use Rattle.epl_tree.specs.declared.event.RangeEnd.{RangeEnd}
 use Rattle.span_text.specs.declared.spot.Spot.{Spot}
-use Rattle.expr_parser.specs.Tokens.{row_of, Takes}
-use Rattle.expr_parser.specs.Words.{parenthesis, closing_parenthesis, bracket, closing_bracket, colon, equals, less, at_most, greater, at_least, times}
-use Rattle.expr_parser.specs.Rules.{Placed}
-use Rattle.expr_parser.specs.Grammar.{IsSumAlone}
+use Rattle.primary_parser.specs.Tokens.{row_of, Takes}
+use Rattle.primary_parser.specs.Words.{parenthesis, closing_parenthesis, bracket, closing_bracket, colon, equals, less, at_most, greater, at_least, times}
+use Rattle.primary_parser.specs.Rules.{Placed}
+use Rattle.primary_parser.specs.Grammar.{IsSumAlone}
 use Rattle.template_parser.specs.Words.{in_word}
 use Rattle.template_parser.specs.Rules.{Unless}
 

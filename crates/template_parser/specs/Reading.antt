@@ -18,11 +18,11 @@ use Rattle.epl_tree.specs.declared.event.Mode.TheVariants as mode
 use Rattle.epl_tree.specs.declared.event.Template.{Template}
 use Rattle.epl_tree.specs.declared.event.TemplateClause.{TemplateClause}
 use Rattle.epl_tree.specs.declared.event.TemplateClause.TheVariants as clause
-use Rattle.expr_parser.specs.declared.part.Part.TheVariants as expression
-use Rattle.expr_parser.specs.Tokens.{row_of}
-use Rattle.expr_parser.specs.Words.{parenthesis, closing_parenthesis, bracket, closing_bracket, comma, colon, equals, less, at_most, greater, at_least, times}
-use Rattle.expr_parser.specs.Reader.{placed, enclosed, decimal, name}
-use Rattle.expr_parser.specs.Reading.{expr_at}
+use Rattle.primary_parser.specs.declared.part.Part.TheVariants as expression
+use Rattle.primary_parser.specs.Tokens.{row_of}
+use Rattle.primary_parser.specs.Words.{parenthesis, closing_parenthesis, bracket, closing_bracket, comma, colon, equals, less, at_most, greater, at_least, times}
+use Rattle.primary_parser.specs.Reader.{placed, enclosed, decimal, name}
+use Rattle.primary_parser.specs.Reading.{expr_at}
 use Rattle.template_parser.specs.Words.{as_word, completed_word, in_word, unmatched_word, within_word}
 use Rattle.template_parser.specs.Rules.{unless}
 use Rattle.template_parser.specs.Constraints.{constraint, low_of, high_of, range_of}

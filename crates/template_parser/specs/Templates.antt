@@ -18,10 +18,10 @@ use Rattle.epl_tree.specs.declared.event.Template.{Template}
 use Rattle.epl_tree.specs.declared.event.TemplateClause.{TemplateClause}
 use Rattle.epl_tree.specs.declared.event.TemplateClause.TheVariants as clause
 use Rattle.span_text.specs.declared.spot.Spot.{Spot}
-use Rattle.expr_parser.specs.Tokens.{row_of, Takes}
-use Rattle.expr_parser.specs.Words.{parenthesis, closing_parenthesis, comma}
-use Rattle.expr_parser.specs.Rules.{Placed, Enclosed, listed}
-use Rattle.expr_parser.specs.Grammar.{IsSumAlone}
+use Rattle.primary_parser.specs.Tokens.{row_of, Takes}
+use Rattle.primary_parser.specs.Words.{parenthesis, closing_parenthesis, comma}
+use Rattle.primary_parser.specs.Rules.{Placed, Enclosed, listed}
+use Rattle.primary_parser.specs.Grammar.{IsSumAlone}
 use Rattle.template_parser.specs.Words.{as_word, completed_word, unmatched_word, within_word}
 use Rattle.template_parser.specs.Constraints.{IsConstraint}
 

@@ -1,6 +1,6 @@
 -- The further signs and keywords that event expressions are written with, by their places in the lexer's tables.
 use Rattle.std.specs.Prelude.{ℕ, List}
-use Rattle.expr_parser.specs.Tokens.{sign, keyword}
+use Rattle.primary_parser.specs.Tokens.{sign, keyword}
 
 -- `->`
 abbrev pub arrow : List ℕ

@@ -2,8 +2,8 @@
 
 ghost use Rattle.std.specs.Prelude.{◌≡◌, ◌-◌, [], ◌∷◌, length, IfOk};
 ghost use Rattle.grammar_forms.specs.Reader.{item_of, made, behind, many};
-ghost use Rattle.expr_parser.specs.Tokens.{row_of};
-ghost use Rattle.expr_parser.specs.Words as word;
+ghost use Rattle.primary_parser.specs.Tokens.{row_of};
+ghost use Rattle.primary_parser.specs.Words as word;
 ghost use Rattle.template_parser.specs.Words as event_word;
 ghost use Rattle.template_parser.specs.Reading as read;
 
@@ -13,7 +13,7 @@ use crate::test::{order_at, test_at};
 use crate::word;
 use epl_lexer::Token;
 use epl_tree::{Comparison, Constraint, ConstraintNode, Constraints, Expr, List, Range};
-use expr_parser::token::{keyword_at, name_at, sign_at, spot_at};
+use primary_parser::token::{keyword_at, name_at, sign_at, spot_at};
 use std::alloc::{AllocError, Global};
 
 #[tactic(auto, unfolding(crate::specs::Reading::ordered))]
@@ -235,7 +235,7 @@ fn constraint_list(
 }
 
 /// Constraints in parentheses at a place, which may be none, and the place behind them.
-#[tactic(auto, unfolding(crate::specs::Reading::constraints, expr_parser::specs::Reader::enclosed))]
+#[tactic(auto, unfolding(crate::specs::Reading::constraints, primary_parser::specs::Reader::enclosed))]
 pub(crate) fn constraints_at(
     alloc: Global,
     tokens: &[Token],

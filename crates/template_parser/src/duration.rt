@@ -7,7 +7,7 @@ use crate::range::sum_at;
 use crate::word;
 use epl_lexer::Token;
 use epl_tree::{Duration, DurationNode};
-use expr_parser::token::{decimal_at, sign_at, spot_at};
+use primary_parser::token::{decimal_at, sign_at, spot_at};
 use std::alloc::{AllocError, Global};
 
 #[tactic(auto, unfolding(crate::specs::Reading::duration_node))]

@@ -2,8 +2,8 @@
 
 ghost use Rattle.std.specs.Prelude.{◌≡◌, IfOk};
 ghost use Rattle.grammar_forms.specs.Reader.{item_of, behind};
-ghost use Rattle.expr_parser.specs.Tokens.{row_of};
-ghost use Rattle.expr_parser.specs.Words as word;
+ghost use Rattle.primary_parser.specs.Tokens.{row_of};
+ghost use Rattle.primary_parser.specs.Words as word;
 ghost use Rattle.template_parser.specs.Reading as read;
 
 use crate::range::sum_at;
@@ -11,7 +11,7 @@ use crate::test::test_at;
 use crate::word;
 use epl_lexer::Token;
 use epl_tree::Expr;
-use expr_parser::token::{keyword_at, name_at, sign_at};
+use primary_parser::token::{keyword_at, name_at, sign_at};
 use std::alloc::{AllocError, Global};
 
 #[tactic(auto, unfolding(crate::specs::Reading::sum_and_colon))]

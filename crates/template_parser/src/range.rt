@@ -2,15 +2,15 @@
 
 ghost use Rattle.std.specs.Prelude.{◌≡◌, IfOk};
 ghost use Rattle.grammar_forms.specs.Reader.{item_of, behind};
-ghost use Rattle.expr_parser.specs.Tokens.{row_of, sign};
-ghost use Rattle.expr_parser.specs.Words as word;
+ghost use Rattle.primary_parser.specs.Tokens.{row_of, sign};
+ghost use Rattle.primary_parser.specs.Words as word;
 ghost use Rattle.template_parser.specs.Reading as read;
 
 use crate::word;
 use epl_lexer::Token;
 use epl_tree::{Expr, Range, RangeEnd};
-use expr_parser::token::sign_at;
 use expr_parser::{Part, expr_at};
+use primary_parser::token::sign_at;
 use std::alloc::{AllocError, Global};
 
 /// The longest sum at a place, as an outermost expression, and the place behind it.

@@ -2,7 +2,7 @@
 
 ghost use Rattle.std.specs.Prelude.{◌≡◌, IfOk};
 ghost use Rattle.grammar_forms.specs.Reader.{made, behind};
-ghost use Rattle.expr_parser.specs.Tokens.{row_of, keyword};
+ghost use Rattle.primary_parser.specs.Tokens.{row_of, keyword};
 ghost use Rattle.template_parser.specs.Templates as tree;
 ghost use Rattle.template_parser.specs.Reading as read;
 
@@ -11,7 +11,7 @@ use crate::duration::span_at;
 use crate::word;
 use epl_lexer::Token;
 use epl_tree::{Constraints, List, Mode, Name, Template, TemplateClause, TemplateClauses, Text};
-use expr_parser::token::{keyword_at, name_at, sign_at, spot_at};
+use primary_parser::token::{keyword_at, name_at, sign_at, spot_at};
 use std::alloc::{AllocError, Global};
 
 #[tactic(auto, unfolding(crate::specs::Reading::declared_name))]

@@ -6,7 +6,7 @@ ghost use Rattle.template_parser.specs.Reading as read;
 use crate::word;
 use epl_lexer::Token;
 use epl_tree::Comparison;
-use expr_parser::token::sign_at;
+use primary_parser::token::sign_at;
 
 /// One of `<`, `<=`, `>` and `>=`, and the place behind it.
 #[tactic(auto, unfolding(crate::specs::Reading::order))]

@@ -1,7 +1,7 @@
 use Rattle.std.proofs.Common.{rules, ◌≡◌, ◌∙◌, sym, length}
 use Rattle.grammar_forms.specs.Reader.{behind, separated}
-use Rattle.expr_parser.specs.Tokens.{row_of}
-use Rattle.expr_parser.specs.Words.{comma}
+use Rattle.primary_parser.specs.Tokens.{row_of}
+use Rattle.primary_parser.specs.Words.{comma}
 use Rattle.template_parser.specs.Reading.{constraint_at, constraint_list}
 use Rattle.template_parser.proofs.Continued.{listed_from}
 use Rattle.template_parser.proofs.constraint.constraint_list.Goals as goal

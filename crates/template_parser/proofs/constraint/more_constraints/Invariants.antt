@@ -1,7 +1,7 @@
 use Rattle.std.proofs.Common.{◌≡◌, ◌-◌, length}
 use Rattle.grammar_forms.specs.Reader.{behind, many}
-use Rattle.expr_parser.specs.Tokens.{row_of}
-use Rattle.expr_parser.specs.Words.{comma}
+use Rattle.primary_parser.specs.Tokens.{row_of}
+use Rattle.primary_parser.specs.Words.{comma}
 use Rattle.template_parser.specs.Reading.{constraint_at}
 use Rattle.template_parser.proofs.constraint.more_constraints.Given as goal
 
