@@ -13,10 +13,10 @@ use Rattle.epl_tree.specs.declared.unit.Member.TheVariants as member
 use Rattle.epl_tree.specs.declared.unit.Param.{Param}
 use Rattle.epl_tree.specs.declared.unit.Unit.{Unit as ProgramFile}
 use Rattle.span_text.specs.declared.spot.Spot.{Spot}
-use Rattle.expr_parser.specs.Tokens.{row_of, spot_at}
+use Rattle.primary_parser.specs.Tokens.{row_of, spot_at}
 use Rattle.decl_parser.specs.declared.region.Region.{Region}
 use Rattle.decl_parser.specs.declared.region.Region.TheVariants as region
-use Rattle.decl_parser.specs.Statements.{IsStmt}
+use Rattle.stmt_parser.specs.Statements.{IsStmt}
 use Rattle.decl_parser.specs.Units as tree
 use Rattle.decl_parser.specs.Units.{IsMember, IsDeclaration, IsEnd, IsUnit}
 use Rattle.decl_parser.specs.Pieces.{IsMonitorHead, IsActionHead, IsPiece, IsLongestPiece, Cut, Start, Next, IsFaultAt, IsFault}

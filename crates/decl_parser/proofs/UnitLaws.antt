@@ -8,20 +8,20 @@ use Rattle.grammar_forms.proofs.Joined.{good_behind, good_separated}
 use Rattle.epl_lexer.specs.declared.token.Token.{Token}
 use Rattle.epl_tree.specs.declared.unit.Declaration.TheVariants as declaration
 use Rattle.epl_tree.specs.declared.unit.Member.TheVariants as member
-use Rattle.expr_parser.specs.Tokens.{row_of}
-use Rattle.expr_parser.specs.Words.{brace, closing_brace, parenthesis, closing_parenthesis, comma}
+use Rattle.primary_parser.specs.Tokens.{row_of}
+use Rattle.primary_parser.specs.Words.{brace, closing_brace, parenthesis, closing_parenthesis, comma}
 use Rattle.expr_parser.proofs.Items.{inside, good_word, good_placed, good_enclosed}
 use Rattle.expr_parser.proofs.TypeLaws.{type_starts, good_type_alone}
 use Rattle.decl_parser.specs.declared.region.Region.{Region}
 use Rattle.decl_parser.specs.declared.region.Region.TheVariants as region
-use Rattle.decl_parser.specs.Words.{semicolon, assigns, action_word, else_word, event_word, monitor_word, returns_word}
+use Rattle.command_parser.specs.Words.{semicolon, assigns, action_word, else_word, event_word, monitor_word, returns_word}
 use Rattle.decl_parser.specs.Units as tree
 use Rattle.decl_parser.specs.Units.{IsField, IsEventDecl, IsGlobal, IsParams, IsSignature, IsAction, IsMember, IsMonitor, IsDeclaration}
 use Rattle.decl_parser.specs.Pieces.{IsMonitorHead, IsActionHead, IsWholeStmt, IsPiece}
 use Rattle.decl_parser.specs.Declaring.{field, event_name, fields, event_decl, initial_value, initialised, global, param, param_list, params, action_name, named_params, result_type, signature, body, action, member_at, monitor_name, members, monitor, declaration_at, monitor_head, action_head, whole_stmt, piece_outside, piece_in_monitor, piece_in_action, piece}
-use Rattle.decl_parser.proofs.Items.{good_before, good_braced, good_unfollowed}
-use Rattle.decl_parser.proofs.Overlaps.{good_expr_read}
-use Rattle.decl_parser.proofs.Laws.{stmt_starts, good_name_read, good_typed, good_stmt_alone}
+use Rattle.stmt_parser.proofs.Items.{good_before, good_braced, good_unfollowed}
+use Rattle.stmt_parser.proofs.Overlaps.{good_expr_read}
+use Rattle.stmt_parser.proofs.Laws.{stmt_starts, good_name_read, good_typed, good_stmt_alone}
 
 -- what may begin a declaration
 abbrev pub declaration_starts : List ℕ

@@ -10,7 +10,7 @@ use Rattle.epl_lexer.specs.declared.token.Kind.{Kind}
 use Rattle.epl_lexer.specs.declared.token.Kind.TheVariants as kind
 use Rattle.epl_tree.specs.declared.unit.Declaration.{Declaration}
 use Rattle.epl_tree.specs.declared.unit.Unit.{Unit as ProgramFile}
-use Rattle.expr_parser.specs.Tokens.{row_of, kind_at, class_of}
+use Rattle.primary_parser.specs.Tokens.{row_of, kind_at, class_of}
 use Rattle.decl_parser.specs.Units.{IsDeclaration, IsEnd, IsUnit}
 use Rattle.decl_parser.specs.Declaring.{declaration_at, is_end_kind, is_end, unit_read}
 use Rattle.decl_parser.proofs.UnitLaws.{declaration_starts, good_declaration}

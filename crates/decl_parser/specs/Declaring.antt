@@ -19,16 +19,17 @@ use Rattle.epl_tree.specs.declared.unit.Member.TheVariants as member
 use Rattle.epl_tree.specs.declared.unit.MonitorDecl.{MonitorDecl}
 use Rattle.epl_tree.specs.declared.unit.Param.{Param}
 use Rattle.epl_tree.specs.declared.unit.Unit.{Unit as ProgramFile}
-use Rattle.expr_parser.specs.Tokens.{row_of, kind_at}
-use Rattle.expr_parser.specs.Words.{brace, closing_brace, parenthesis, closing_parenthesis, comma}
-use Rattle.expr_parser.specs.Reader.{placed, enclosed}
-use Rattle.expr_parser.specs.Reading.{type_at}
+use Rattle.primary_parser.specs.Tokens.{row_of, kind_at}
+use Rattle.primary_parser.specs.Words.{brace, closing_brace, parenthesis, closing_parenthesis, comma}
+use Rattle.primary_parser.specs.Reader.{placed, enclosed}
+use Rattle.primary_parser.specs.Reading.{type_at}
 use Rattle.decl_parser.specs.declared.region.Region.{Region}
 use Rattle.decl_parser.specs.declared.region.Region.TheVariants as region
-use Rattle.decl_parser.specs.Words.{semicolon, assigns, action_word, else_word, event_word, monitor_word, returns_word}
+use Rattle.command_parser.specs.Words.{semicolon, assigns, action_word, else_word, event_word, monitor_word, returns_word}
 use Rattle.decl_parser.specs.Units.{field_of, param_of, global_of, action_of, event_of, monitor_of}
-use Rattle.decl_parser.specs.Reader.{before, braced, unfollowed}
-use Rattle.decl_parser.specs.Reading.{expr, name_read, typed, stmt_at}
+use Rattle.command_parser.specs.Reader.{before, braced, unfollowed}
+use Rattle.command_parser.specs.Reading.{expr, name_read, typed}
+use Rattle.stmt_parser.specs.Reading.{stmt_at}
 
 -- A turn of the cut: it ends where no piece begins.
 abbrev pub onward : Option (Region × ℕ) → Region × ℕ → (Region → ℕ → Region × ℕ) → Region × ℕ

@@ -1,10 +1,3 @@
-pub mod Words
-pub mod Rules
-pub mod Events
-pub mod Statements
 pub mod Units
 pub mod Pieces
-pub mod Reader
-pub mod Reading
 pub mod Declaring
-pub mod Nests

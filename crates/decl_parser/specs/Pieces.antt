@@ -8,13 +8,14 @@ use Rattle.epl_tree.specs.declared.statement.Stmt.{Stmt}
 use Rattle.epl_tree.specs.declared.types.TypeExpr.{TypeExpr}
 use Rattle.epl_tree.specs.declared.unit.Param.{Param}
 use Rattle.span_text.specs.declared.spot.Spot.{Spot}
-use Rattle.expr_parser.specs.Tokens.{row_of, spot_at}
-use Rattle.expr_parser.specs.Words.{brace, closing_brace}
+use Rattle.primary_parser.specs.Tokens.{row_of, spot_at}
+use Rattle.primary_parser.specs.Words.{brace, closing_brace}
 use Rattle.decl_parser.specs.declared.region.Region.{Region}
 use Rattle.decl_parser.specs.declared.region.Region.TheVariants as region
-use Rattle.decl_parser.specs.Words.{else_word, monitor_word}
-use Rattle.decl_parser.specs.Rules.{Unfollowed}
-use Rattle.decl_parser.specs.Statements.{IsName, IsStmt}
+use Rattle.command_parser.specs.Words.{else_word, monitor_word}
+use Rattle.command_parser.specs.Rules.{Unfollowed}
+use Rattle.command_parser.specs.Commands.{IsName}
+use Rattle.stmt_parser.specs.Statements.{IsStmt}
 use Rattle.decl_parser.specs.Units.{IsEventDecl, IsGlobal, IsSignature, IsEnd}
 
 module _ (tokens : List Token) where

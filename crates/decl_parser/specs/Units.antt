@@ -25,14 +25,15 @@ use Rattle.epl_tree.specs.declared.unit.MonitorDecl.{MonitorDecl}
 use Rattle.epl_tree.specs.declared.unit.Param.{Param}
 use Rattle.epl_tree.specs.declared.unit.Unit.{Unit as ProgramFile}
 use Rattle.span_text.specs.declared.spot.Spot.{Spot}
-use Rattle.expr_parser.specs.Tokens.{row_of, kind_at}
-use Rattle.expr_parser.specs.Rules.{Placed, Enclosed}
-use Rattle.expr_parser.specs.Words.{parenthesis, closing_parenthesis, comma}
-use Rattle.expr_parser.specs.Types.{IsType}
-use Rattle.expr_parser.specs.Grammar.{IsExpr}
-use Rattle.decl_parser.specs.Words.{semicolon, assigns, action_word, event_word, monitor_word, returns_word}
-use Rattle.decl_parser.specs.Rules.{Before, Braced}
-use Rattle.decl_parser.specs.Statements.{IsName, IsTyped, IsStmt}
+use Rattle.primary_parser.specs.Tokens.{row_of, kind_at}
+use Rattle.primary_parser.specs.Rules.{Placed, Enclosed}
+use Rattle.primary_parser.specs.Words.{parenthesis, closing_parenthesis, comma}
+use Rattle.primary_parser.specs.Types.{IsType}
+use Rattle.primary_parser.specs.Grammar.{IsExpr}
+use Rattle.command_parser.specs.Words.{semicolon, assigns, action_word, event_word, monitor_word, returns_word}
+use Rattle.command_parser.specs.Rules.{Before, Braced}
+use Rattle.command_parser.specs.Commands.{IsName, IsTyped}
+use Rattle.stmt_parser.specs.Statements.{IsStmt}
 
 abbrev pub field_of : TypeExpr × Name → FieldDecl
 field_of x = record { shape = x.0; name = x.1 }

@@ -2,19 +2,18 @@
 
 ghost use Rattle.std.specs.Prelude.{◌≡◌, ◌-◌, [], length, IfOk};
 ghost use Rattle.grammar_forms.specs.Reader.{behind, many};
-ghost use Rattle.expr_parser.specs.Tokens.{row_of};
-ghost use Rattle.expr_parser.specs.Words.{comma};
-ghost use Rattle.decl_parser.specs.Reading.{stmt_at};
+ghost use Rattle.primary_parser.specs.Tokens.{row_of};
+ghost use Rattle.primary_parser.specs.Words.{comma};
+ghost use Rattle.stmt_parser.specs.Reading.{stmt_at};
 ghost use Rattle.decl_parser.specs.Declaring as read;
 
-use crate::part::{name, typed};
-use crate::rules::stmt;
-use crate::word;
+use command_parser::{name, typed, word};
 use epl_lexer::Token;
 use epl_tree::{ActionDecl, List, Name, Param, Params, Stmts, TypeExpr};
-use expr_parser::token::{keyword_at, sign_at, spot_at};
 use expr_parser::{MAX_DEPTH, type_at};
+use primary_parser::token::{keyword_at, sign_at, spot_at};
 use std::alloc::{AllocError, Global};
+use stmt_parser::stmt;
 
 #[tactic(auto, unfolding(crate::specs::Declaring::param))]
 fn param(alloc: Global, tokens: &[Token], at: usize) -> Result<Option<(Param, usize)>, AllocError>
@@ -72,7 +71,7 @@ fn param_list(
     Ok(Some((all, end)))
 }
 
-#[tactic(auto, unfolding(crate::specs::Declaring::params, expr_parser::specs::Reader::enclosed))]
+#[tactic(auto, unfolding(crate::specs::Declaring::params, primary_parser::specs::Reader::enclosed))]
 fn params(alloc: Global, tokens: &[Token], at: usize) -> Result<Option<(Params, usize)>, AllocError>
     ensures { IfOk result (λ r. r ≡ read.params tokens.now at) }
 {
@@ -170,7 +169,7 @@ fn statements(alloc: Global, tokens: &[Token], from: usize) -> Result<(Stmts, us
     Ok((found, at))
 }
 
-#[tactic(auto, unfolding(crate::specs::Declaring::body, crate::specs::Reader::braced))]
+#[tactic(auto, unfolding(crate::specs::Declaring::body, command_parser::specs::Reader::braced))]
 fn body(alloc: Global, tokens: &[Token], at: usize) -> Result<Option<(Stmts, usize)>, AllocError>
     ensures { IfOk result (λ r. r ≡ read.body tokens.now at) }
 {

@@ -4,14 +4,13 @@ ghost use Rattle.std.specs.Prelude.{◌≡◌, ◌-◌, [], length, IfOk};
 ghost use Rattle.grammar_forms.specs.Reader.{many};
 ghost use Rattle.decl_parser.specs.Declaring as read;
 
-use crate::part::{name, typed};
-use crate::word;
+use command_parser::{name, typed, word};
 use epl_lexer::Token;
 use epl_tree::{EventDecl, FieldDecl, FieldDecls, List, Name};
-use expr_parser::token::{keyword_at, sign_at, spot_at};
+use primary_parser::token::{keyword_at, sign_at, spot_at};
 use std::alloc::{AllocError, Global};
 
-#[tactic(auto, unfolding(crate::specs::Declaring::field, crate::specs::Reader::before))]
+#[tactic(auto, unfolding(crate::specs::Declaring::field, command_parser::specs::Reader::before))]
 fn field(
     alloc: Global,
     tokens: &[Token],
@@ -48,7 +47,7 @@ fn more_fields(
     Ok((found, at))
 }
 
-#[tactic(auto, unfolding(crate::specs::Declaring::fields, crate::specs::Reader::braced))]
+#[tactic(auto, unfolding(crate::specs::Declaring::fields, command_parser::specs::Reader::braced))]
 fn fields(
     alloc: Global,
     tokens: &[Token],

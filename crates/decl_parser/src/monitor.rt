@@ -6,11 +6,10 @@ ghost use Rattle.decl_parser.specs.Declaring as read;
 
 use crate::action::action;
 use crate::event_decl::event_decl;
-use crate::part::{expr, name, typed};
-use crate::word;
+use command_parser::{expr, name, typed, word};
 use epl_lexer::Token;
 use epl_tree::{Declaration, Expr, GlobalDecl, List, Member, Members, MonitorDecl, Name, TypeExpr};
-use expr_parser::token::{keyword_at, sign_at, spot_at};
+use primary_parser::token::{keyword_at, sign_at, spot_at};
 use std::alloc::{AllocError, Global};
 
 #[tactic(auto, unfolding(crate::specs::Declaring::initial_value, grammar_forms::specs::Reader::behind))]
@@ -45,7 +44,7 @@ fn initialised(
 }
 
 /// A variable of a monitor.
-#[tactic(auto, unfolding(crate::specs::Declaring::global, crate::specs::Reader::before))]
+#[tactic(auto, unfolding(crate::specs::Declaring::global, command_parser::specs::Reader::before))]
 pub(crate) fn global(
     alloc: Global,
     tokens: &[Token],
@@ -100,7 +99,7 @@ fn more_members(
     Ok((found, at))
 }
 
-#[tactic(auto, unfolding(crate::specs::Declaring::members, crate::specs::Reader::braced))]
+#[tactic(auto, unfolding(crate::specs::Declaring::members, command_parser::specs::Reader::braced))]
 fn members(
     alloc: Global,
     tokens: &[Token],

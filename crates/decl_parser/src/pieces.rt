@@ -8,12 +8,12 @@ use crate::action::signature;
 use crate::event_decl::event_decl;
 use crate::monitor::{global, monitor_name};
 use crate::region::Region;
-use crate::rules::stmt;
-use crate::word;
+use command_parser::word;
 use epl_lexer::Token;
 use epl_tree::{Name, Params, Stmt, TypeExpr};
-use expr_parser::token::{keyword_at, sign_at};
+use primary_parser::token::{keyword_at, sign_at};
 use std::alloc::{AllocError, Global};
+use stmt_parser::stmt;
 
 #[tactic(auto, unfolding(crate::specs::Declaring::monitor_head))]
 fn monitor_head(

@@ -8,7 +8,7 @@ use Rattle.epl_lexer.specs.declared.token.Token.{Token}
 use Rattle.epl_lexer.specs.Tokens.{AreTokens, IsLexFault}
 use Rattle.epl_lexer.proofs.Lexed.{all_told, fault_told, one_fault}
 use Rattle.epl_tree.specs.declared.unit.Unit.{Unit as Tree}
-use Rattle.expr_parser.specs.Tokens.{spot_at}
+use Rattle.primary_parser.specs.Tokens.{spot_at}
 use Rattle.decl_parser.specs.declared.region.Region.{Region}
 use Rattle.decl_parser.specs.declared.region.Region.TheVariants as region
 use Rattle.decl_parser.specs.Units.{IsUnit}

@@ -5,7 +5,7 @@ use Rattle.epl_lexer.specs.declared.token.Token.{Token}
 use Rattle.epl_tree.specs.declared.unit.Unit.{Unit as ProgramFile}
 use Rattle.span_text.specs.declared.spot.Spot.{Spot}
 use Rattle.epl_syntax.specs.declared.fault.ParseFault.TheVariants.{Syntax}
-use Rattle.expr_parser.specs.Tokens.{spot_at}
+use Rattle.primary_parser.specs.Tokens.{spot_at}
 use Rattle.decl_parser.specs.declared.region.Region.{Region}
 use Rattle.decl_parser.specs.declared.region.Region.TheVariants as region
 use Rattle.decl_parser.specs.Pieces.{IsFault}

@@ -3,7 +3,7 @@
 ghost use Rattle.std.specs.Prelude.{◌≡◌, ◌<◌, ◌≤◌, ℕ, length, IfOk, Err};
 ghost use Rattle.epl_tree.specs.declared.event.EventExpr.{EventExpr as TheEvent};
 ghost use Rattle.span_text.specs.declared.spot.Spot.{Spot as TheSpot};
-ghost use Rattle.expr_parser.specs.Tokens.{spot_at};
+ghost use Rattle.primary_parser.specs.Tokens.{spot_at};
 ghost use Rattle.event_parser.specs.Grammar.{IsEvent, IsNoEvent};
 
 use crate::fault::ParseFault;

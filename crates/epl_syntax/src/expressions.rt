@@ -3,8 +3,8 @@
 ghost use Rattle.std.specs.Prelude.{◌≡◌, ◌<◌, ◌≤◌, ℕ, length, IfOk, Err};
 ghost use Rattle.epl_tree.specs.declared.expression.Expr.{Expr as TheExpr};
 ghost use Rattle.span_text.specs.declared.spot.Spot.{Spot as TheSpot};
-ghost use Rattle.expr_parser.specs.Tokens.{spot_at};
-ghost use Rattle.expr_parser.specs.Grammar.{IsExpr, IsNoExpr};
+ghost use Rattle.primary_parser.specs.Tokens.{spot_at};
+ghost use Rattle.primary_parser.specs.Grammar.{IsExpr, IsNoExpr};
 
 use crate::fault::ParseFault;
 use epl_lexer::Tokens;

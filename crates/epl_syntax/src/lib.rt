@@ -11,7 +11,9 @@ mod programs;
 
 pub use decl_parser::discard;
 pub use epl_lexer::{LexFault, Tokens};
+pub use event_parser::discard_event;
 pub use events::event_expression;
+pub use expr_parser::{discard_expression, discard_type};
 pub use expressions::expression;
 pub use fault::{ParseFault, SyntaxFault};
 pub use files::units;

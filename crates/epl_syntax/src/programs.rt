@@ -8,7 +8,7 @@ use crate::fault::ParseFault;
 use decl_parser::{cut, unit_read};
 use epl_lexer::{Token, Tokens};
 use epl_tree::Unit;
-use expr_parser::token::spot_at;
+use primary_parser::token::spot_at;
 use std::alloc::Global;
 
 /// The place of the fault, where there is no tree.

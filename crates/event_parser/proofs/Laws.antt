@@ -7,16 +7,16 @@ use Rattle.grammar_forms.proofs.Joined.{good_behind, good_within}
 use Rattle.epl_lexer.specs.declared.token.Token.{Token}
 use Rattle.epl_tree.specs.declared.event.EventExpr.{EventExpr}
 use Rattle.epl_tree.specs.declared.event.EventNode.TheVariants as n
-use Rattle.expr_parser.specs.Tokens.{row_of}
-use Rattle.expr_parser.specs.Words.{parenthesis, closing_parenthesis, and_word, not_word, or_word, xor_word}
+use Rattle.primary_parser.specs.Tokens.{row_of}
+use Rattle.primary_parser.specs.Words.{parenthesis, closing_parenthesis, and_word, not_word, or_word, xor_word}
 use Rattle.expr_parser.proofs.Items.{inside, good_placed, good_joined}
 use Rattle.event_parser.specs.declared.part.EventPart.{EventPart}
 use Rattle.event_parser.specs.declared.part.EventPart.TheVariants as part
-use Rattle.event_parser.specs.Words.{arrow, all_word, wait_word}
+use Rattle.template_parser.specs.Words.{arrow, all_word, wait_word}
 use Rattle.event_parser.specs.Grammar as tree
 use Rattle.event_parser.specs.Grammar.{IsAtom, IsUnary, IsConjunction, IsExclusive, IsDisjunction, IsWhole, IsPart, IsEventAt, IsEvent}
 use Rattle.event_parser.specs.Reading.{waiting, group, atom, repeated, negated, unary_node, unary, conjunction, exclusive, disjunction, whole, part_of, event_at}
-use Rattle.event_parser.proofs.TemplateLaws.{clause_words, template_starts, good_span, good_template}
+use Rattle.template_parser.proofs.TemplateLaws.{clause_words, template_starts, good_span, good_template}
 
 -- what may begin an event expression
 abbrev pub starts : List ℕ

@@ -14,13 +14,13 @@ use Rattle.epl_tree.specs.declared.event.EventExpr.{EventExpr, roll-EventExpr}
 use Rattle.epl_tree.specs.declared.event.EventNode.{EventNode}
 use Rattle.epl_tree.specs.declared.event.EventNode.TheVariants as n
 use Rattle.span_text.specs.declared.spot.Spot.{Spot}
-use Rattle.expr_parser.specs.Tokens.{row_of}
-use Rattle.expr_parser.specs.Words.{parenthesis, closing_parenthesis, and_word, not_word, or_word, xor_word}
-use Rattle.expr_parser.specs.Rules.{Placed, Joined}
+use Rattle.primary_parser.specs.Tokens.{row_of}
+use Rattle.primary_parser.specs.Words.{parenthesis, closing_parenthesis, and_word, not_word, or_word, xor_word}
+use Rattle.primary_parser.specs.Rules.{Placed, Joined}
 use Rattle.event_parser.specs.declared.part.EventPart.{EventPart}
 use Rattle.event_parser.specs.declared.part.EventPart.TheVariants as part
-use Rattle.event_parser.specs.Words.{arrow, all_word, wait_word}
-use Rattle.event_parser.specs.Templates.{IsSpan, IsTemplate}
+use Rattle.template_parser.specs.Words.{arrow, all_word, wait_word}
+use Rattle.template_parser.specs.Templates.{IsSpan, IsTemplate}
 
 -- An event expression with its spot.
 abbrev pub event : Spot → EventNode → EventExpr

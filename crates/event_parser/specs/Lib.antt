@@ -1,7 +1,3 @@
-pub mod Words
-pub mod Rules
-pub mod Constraints
-pub mod Templates
 pub mod Grammar
 pub mod Reading
 pub mod Nests

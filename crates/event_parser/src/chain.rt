@@ -2,9 +2,9 @@
 
 ghost use Rattle.std.specs.Prelude.{◌≡◌, ◌-◌, [], length, IfOk};
 ghost use Rattle.grammar_forms.specs.Reader.{behind, many};
-ghost use Rattle.expr_parser.specs.Tokens.{row_of};
-ghost use Rattle.expr_parser.specs.Words as word;
-ghost use Rattle.event_parser.specs.Words as event_word;
+ghost use Rattle.primary_parser.specs.Tokens.{row_of};
+ghost use Rattle.primary_parser.specs.Words as word;
+ghost use Rattle.template_parser.specs.Words as event_word;
 ghost use Rattle.event_parser.specs.Grammar as tree;
 ghost use Rattle.event_parser.specs.Reading as read;
 ghost use Rattle.event_parser.specs.Reading.{event_at};
@@ -12,11 +12,11 @@ ghost use Rattle.event_parser.specs.Nests.{NestsEvents};
 
 use crate::part::EventPart;
 use crate::rules::EventRules;
-use crate::word;
 use epl_lexer::Token;
 use epl_tree::{Boxed, EventExpr, EventExprs, EventNode, List, Spot};
-use expr_parser::token::{keyword_at, sign_at, spot_at};
+use primary_parser::token::{keyword_at, sign_at, spot_at};
 use std::alloc::{AllocError, Global};
+use template_parser::word;
 
 fn and_of(
     alloc: Global,
@@ -116,7 +116,7 @@ impl<
         Ok((found, at))
     }
 
-    #[tactic(auto, unfolding(crate::specs::Reading::conjunction, expr_parser::specs::Reader::joined))]
+    #[tactic(auto, unfolding(crate::specs::Reading::conjunction, primary_parser::specs::Reader::joined))]
     pub(crate) fn conjunction(&self, at: usize) -> Result<Option<(EventExpr, usize)>, AllocError>
         requires { NestsEvents self.now.depth (F.pre self.now.deeper) (F.post self.now.deeper) }
         ensures { IfOk result (λ r. r ≡ read.conjunction self.now.tokens.now (event_at self.now.tokens.now self.now.depth) at) }
@@ -157,7 +157,7 @@ impl<
         Ok((found, at))
     }
 
-    #[tactic(auto, unfolding(crate::specs::Reading::exclusive, expr_parser::specs::Reader::joined))]
+    #[tactic(auto, unfolding(crate::specs::Reading::exclusive, primary_parser::specs::Reader::joined))]
     pub(crate) fn exclusive(&self, at: usize) -> Result<Option<(EventExpr, usize)>, AllocError>
         requires { NestsEvents self.now.depth (F.pre self.now.deeper) (F.post self.now.deeper) }
         ensures { IfOk result (λ r. r ≡ read.exclusive self.now.tokens.now (event_at self.now.tokens.now self.now.depth) at) }
@@ -198,7 +198,7 @@ impl<
         Ok((found, at))
     }
 
-    #[tactic(auto, unfolding(crate::specs::Reading::disjunction, expr_parser::specs::Reader::joined))]
+    #[tactic(auto, unfolding(crate::specs::Reading::disjunction, primary_parser::specs::Reader::joined))]
     pub(crate) fn disjunction(&self, at: usize) -> Result<Option<(EventExpr, usize)>, AllocError>
         requires { NestsEvents self.now.depth (F.pre self.now.deeper) (F.post self.now.deeper) }
         ensures { IfOk result (λ r. r ≡ read.disjunction self.now.tokens.now (event_at self.now.tokens.now self.now.depth) at) }
@@ -239,7 +239,7 @@ impl<
         Ok((found, at))
     }
 
-    #[tactic(auto, unfolding(crate::specs::Reading::whole, expr_parser::specs::Reader::joined))]
+    #[tactic(auto, unfolding(crate::specs::Reading::whole, primary_parser::specs::Reader::joined))]
     pub(crate) fn whole(&self, at: usize) -> Result<Option<(EventExpr, usize)>, AllocError>
         requires { NestsEvents self.now.depth (F.pre self.now.deeper) (F.post self.now.deeper) }
         ensures { IfOk result (λ r. r ≡ read.whole self.now.tokens.now (event_at self.now.tokens.now self.now.depth) at) }

@@ -2,15 +2,10 @@
 #![tactic(auto)]
 
 mod chain;
-mod constraint;
-mod duration;
-mod head;
+mod discards;
 mod part;
-mod range;
 mod rules;
-mod template;
-mod test;
-mod word;
 
+pub use discards::discard_event;
 pub use part::EventPart;
 pub use rules::{MAX_DEPTH, event_at};

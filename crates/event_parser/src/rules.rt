@@ -6,14 +6,12 @@ ghost use Rattle.event_parser.specs.Reading as read;
 ghost use Rattle.event_parser.specs.Reading.{event_at};
 ghost use Rattle.event_parser.specs.Nests.{NestsEvents};
 
-use crate::duration::span_at;
 use crate::part::EventPart;
-use crate::template::template_at;
-use crate::word;
 use epl_lexer::Token;
 use epl_tree::{Boxed, EventExpr, EventNode};
-use expr_parser::token::{keyword_at, sign_at, spot_at};
+use primary_parser::token::{keyword_at, sign_at, spot_at};
 use std::alloc::{AllocError, Global};
+use template_parser::{span_at, template_at, word};
 
 /// How deep event expressions nest.
 pub const MAX_DEPTH: usize = 200;

@@ -13,9 +13,9 @@ use Rattle.epl_lexer.specs.declared.token.Token.{Token}
 use Rattle.epl_lexer.specs.declared.token.Kind.{Kind}
 use Rattle.epl_lexer.specs.declared.token.Kind.TheVariants.{Name, Integer, Decimal, Quoted, Keyword, Sign, End}
 use Rattle.span_text.specs.declared.spot.Spot.{Spot}
-use Rattle.expr_parser.specs.Tokens.{kind_at, class_of, row_of, names, integers, decimals, strings, Takes, spot_at}
-use Rattle.expr_parser.specs.Rules.{Placed, listed, Enclosed, Joined}
-use Rattle.expr_parser.specs.Reader.{integer_by, decimal_by, quoted_by, name_by, integer, decimal, quoted, name, placed, enclosed, joined}
+use Rattle.primary_parser.specs.Tokens.{kind_at, class_of, row_of, names, integers, decimals, strings, Takes, spot_at}
+use Rattle.primary_parser.specs.Rules.{Placed, listed, Enclosed, Joined}
+use Rattle.primary_parser.specs.Reader.{integer_by, decimal_by, quoted_by, name_by, integer, decimal, quoted, name, placed, enclosed, joined}
 
 -- past the last token there is only the end
 pub inside : (tokens : List Token) (set : List ℕ) → contains 14 set ≡ false → LiesInside (row_of tokens) set

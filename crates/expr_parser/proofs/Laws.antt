@@ -14,13 +14,13 @@ use Rattle.epl_tree.specs.declared.expression.ExprNode.TheVariants as n
 use Rattle.epl_tree.specs.declared.expression.SuffixNode.TheVariants as s
 use Rattle.epl_tree.specs.declared.expression.Operator.TheVariants as operator
 use Rattle.epl_tree.specs.declared.expression.Comparison.TheVariants as comparison
-use Rattle.expr_parser.specs.declared.part.Part.{Part}
-use Rattle.expr_parser.specs.declared.part.Part.TheVariants as part
-use Rattle.expr_parser.specs.Tokens.{row_of, names, integers, strings}
-use Rattle.expr_parser.specs.Words.{brace, closing_brace, parenthesis, closing_parenthesis, bracket, closing_bracket, comma, point, colon, equals, differs, less, at_most, greater, at_least, plus, minus, times, divided, remainder, context_word, and_word, false_word, new_word, not_word, or_word, true_word, xor_word}
-use Rattle.expr_parser.specs.Grammar as tree
-use Rattle.expr_parser.specs.Grammar.{IsComparison, IsAdditive, IsMultiplicative, IsLiteral, IsCurrent, IsArgs, IsArguments, IsNamed, IsEntry, IsCollection, IsContext, IsPrimary, IsSuffix, IsPostfix, IsUnary, IsProduct, IsSum, IsCompared, IsNegation, IsConjunction, IsExclusive, IsWhole, IsPart, IsExprAt, IsExpr, IsSumAlone, IsPostfixAlone}
-use Rattle.expr_parser.specs.Reading.{compared_by, additive, multiplicative, literal, new_default, current_word, empty_parentheses, current_call, current, args, arguments, named, entry_at, entries, collection, context_tail, context, group, bracketed_node, primary_node, primary, member, field_or_method, suffix_node, suffix_at, postfix, signed, unary, factor, product, term, sum, right_side, compared, negated, negation, conjunction, exclusive, whole, part_of, expr_at}
+use Rattle.primary_parser.specs.declared.part.Part.{Part}
+use Rattle.primary_parser.specs.declared.part.Part.TheVariants as part
+use Rattle.primary_parser.specs.Tokens.{row_of, names, integers, strings}
+use Rattle.primary_parser.specs.Words.{brace, closing_brace, parenthesis, closing_parenthesis, bracket, closing_bracket, comma, point, colon, equals, differs, less, at_most, greater, at_least, plus, minus, times, divided, remainder, context_word, and_word, false_word, new_word, not_word, or_word, true_word, xor_word}
+use Rattle.primary_parser.specs.Grammar as tree
+use Rattle.primary_parser.specs.Grammar.{IsComparison, IsAdditive, IsMultiplicative, IsLiteral, IsCurrent, IsArgs, IsArguments, IsNamed, IsEntry, IsCollection, IsContext, IsPrimary, IsSuffix, IsPostfix, IsUnary, IsProduct, IsSum, IsCompared, IsNegation, IsConjunction, IsExclusive, IsWhole, IsPart, IsExprAt, IsExpr, IsSumAlone, IsPostfixAlone}
+use Rattle.primary_parser.specs.Reading.{compared_by, additive, multiplicative, literal, new_default, current_word, empty_parentheses, current_call, current, args, arguments, named, entry_at, entries, collection, context_tail, context, group, bracketed_node, primary_node, primary, member, field_or_method, suffix_node, suffix_at, postfix, signed, unary, factor, product, term, sum, right_side, compared, negated, negation, conjunction, exclusive, whole, part_of, expr_at}
 use Rattle.expr_parser.proofs.Items.{inside, good_integer, good_quoted, good_name, good_word, good_placed, good_joined, good_enclosed}
 use Rattle.expr_parser.proofs.TypeLaws.{good_type_alone}
 

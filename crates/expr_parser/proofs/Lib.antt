@@ -1,4 +1,3 @@
-pub mod Tokens
 pub mod Items
 pub mod TypeLaws
 pub mod Laws

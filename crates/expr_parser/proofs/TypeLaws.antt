@@ -8,10 +8,10 @@ use Rattle.grammar_forms.proofs.Joined.{good_behind, good_within}
 use Rattle.epl_lexer.specs.declared.token.Token.{Token}
 use Rattle.epl_tree.specs.declared.types.TypeExpr.{TypeExpr}
 use Rattle.epl_tree.specs.declared.types.TypeNode.TheVariants as t
-use Rattle.expr_parser.specs.Tokens.{row_of, names}
-use Rattle.expr_parser.specs.Words.{less, greater, comma, boolean_word, context_word, dictionary_word, integer_word, listener_word, sequence_word, string_word}
-use Rattle.expr_parser.specs.Types.{type_expr, IsKeywordType, IsCollectionType, IsTypeOver, IsTypeAt, IsType}
-use Rattle.expr_parser.specs.Reading.{keyword_type, element, key_and_value, bracketed, collection_type, type_node, type_over, type_at}
+use Rattle.primary_parser.specs.Tokens.{row_of, names}
+use Rattle.primary_parser.specs.Words.{less, greater, comma, boolean_word, context_word, dictionary_word, integer_word, listener_word, sequence_word, string_word}
+use Rattle.primary_parser.specs.Types.{type_expr, IsKeywordType, IsCollectionType, IsTypeOver, IsTypeAt, IsType}
+use Rattle.primary_parser.specs.Reading.{keyword_type, element, key_and_value, bracketed, collection_type, type_node, type_over, type_at}
 use Rattle.expr_parser.proofs.Items.{inside, good_name, good_word, good_placed}
 
 -- what may begin a type

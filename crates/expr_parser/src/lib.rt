@@ -1,18 +1,13 @@
-//! A parser of types and expressions.
+//! A parser of expressions.
 #![tactic(auto)]
 
 mod arithmetic;
-mod literal;
+mod discards;
 mod logic;
 pub mod operator;
-mod part;
 mod postfix;
-mod primary;
 mod rules;
-pub mod token;
-mod types;
-mod word;
 
-pub use part::Part;
+pub use discards::{discard_expression, discard_type};
+pub use primary_parser::{MAX_DEPTH, Part, type_at};
 pub use rules::{arguments_at, expr_at};
-pub use types::{MAX_DEPTH, type_at};

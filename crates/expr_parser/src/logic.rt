@@ -1,22 +1,21 @@
 ghost use Rattle.std.specs.Prelude.{◌≡◌, ◌-◌, [], length, IfOk};
 ghost use Rattle.grammar_forms.specs.Reader.{and_many, and_optional, behind, within, many};
-ghost use Rattle.expr_parser.specs.Tokens.{row_of, sign, keyword};
-ghost use Rattle.expr_parser.specs.Words as word;
-ghost use Rattle.expr_parser.specs.Grammar as tree;
-ghost use Rattle.expr_parser.specs.Reader.{enclosed, joined};
-ghost use Rattle.expr_parser.specs.Reading as read;
-ghost use Rattle.expr_parser.specs.Reading.{expr_at};
-ghost use Rattle.expr_parser.specs.declared.part.Part.TheVariants as part;
-ghost use Rattle.expr_parser.specs.Nests.{Nests};
+ghost use Rattle.primary_parser.specs.Tokens.{row_of, sign, keyword};
+ghost use Rattle.primary_parser.specs.Words as word;
+ghost use Rattle.primary_parser.specs.Grammar as tree;
+ghost use Rattle.primary_parser.specs.Reader.{enclosed, joined};
+ghost use Rattle.primary_parser.specs.Reading as read;
+ghost use Rattle.primary_parser.specs.Reading.{expr_at};
+ghost use Rattle.primary_parser.specs.declared.part.Part.TheVariants as part;
+ghost use Rattle.primary_parser.specs.Nests.{Nests};
 ghost use Rattle.epl_tree.specs.declared.expression.ExprNode.TheVariants as node;
 
 use crate::operator::comparison_at;
-use crate::part::Part;
-use crate::rules::Rules;
-use crate::token::{keyword_at, spot_at};
-use crate::word;
+use crate::rules::OperatorRules;
 use epl_lexer::Token;
 use epl_tree::{Boxed, Comparison, Expr, ExprNode, Exprs, List, Spot};
+use primary_parser::token::{keyword_at, spot_at};
+use primary_parser::{Part, word};
 use std::alloc::{AllocError, Global};
 
 fn compare_of(
@@ -66,13 +65,13 @@ fn or_of(alloc: Global, spot: Spot, first: Expr, rest: Exprs) -> Result<Expr, Al
 impl<
     't,
     F: Fn(Global, &[Token], usize, Part, usize) -> Result<Option<(Expr, usize)>, AllocError>,
-> Rules<'t, F> {
-    #[tactic(auto, unfolding(crate::specs::Reading::right_side))]
+> OperatorRules<'t, F> {
+    #[tactic(auto, unfolding(primary_parser::specs::Reading::right_side))]
     fn right_side(&self, at: usize) -> Result<Option<((Comparison, Expr), usize)>, AllocError>
-        requires { Nests self.now.depth (F.pre self.now.deeper) (F.post self.now.deeper) }
-        ensures { IfOk result (λ r. r ≡ read.right_side self.now.tokens.now (expr_at self.now.tokens.now self.now.depth) at) }
+        requires { Nests self.now.primaries.depth (F.pre self.now.primaries.deeper) (F.post self.now.primaries.deeper) }
+        ensures { IfOk result (λ r. r ≡ read.right_side self.now.primaries.tokens.now (expr_at self.now.primaries.tokens.now self.now.primaries.depth) at) }
     {
-        let Some((operator, at)) = comparison_at(self.tokens, at) else {
+        let Some((operator, at)) = comparison_at(self.primaries.tokens, at) else {
             return Ok(None);
         };
         let Some((right, end)) = self.sum(at)? else {
@@ -81,41 +80,44 @@ impl<
         Ok(Some(((operator, right), end)))
     }
 
-    #[tactic(auto, unfolding(crate::specs::Reading::compared))]
+    #[tactic(auto, unfolding(primary_parser::specs::Reading::compared))]
     fn compared(&self, at: usize) -> Result<Option<(Expr, usize)>, AllocError>
-        requires { Nests self.now.depth (F.pre self.now.deeper) (F.post self.now.deeper) }
-        ensures { IfOk result (λ r. r ≡ read.compared self.now.tokens.now (expr_at self.now.tokens.now self.now.depth) at) }
+        requires { Nests self.now.primaries.depth (F.pre self.now.primaries.deeper) (F.post self.now.primaries.deeper) }
+        ensures { IfOk result (λ r. r ≡ read.compared self.now.primaries.tokens.now (expr_at self.now.primaries.tokens.now self.now.primaries.depth) at) }
     {
-        let spot = spot_at(self.tokens, at);
+        let spot = spot_at(self.primaries.tokens, at);
         let Some((left, at)) = self.sum(at)? else {
             return Ok(None);
         };
         let Some(((operator, right), end)) = self.right_side(at)? else {
             return Ok(Some((left, at)));
         };
-        Ok(Some((compare_of(self.alloc, spot, left, operator, right)?, end)))
+        Ok(Some((
+            compare_of(self.primaries.alloc, spot, left, operator, right)?,
+            end,
+        )))
     }
 
-    #[tactic(auto, unfolding(crate::specs::Reading::negated, grammar_forms::specs::Reader::behind))]
+    #[tactic(auto, unfolding(primary_parser::specs::Reading::negated, grammar_forms::specs::Reader::behind))]
     fn negated(&self, at: usize) -> Result<Option<(Expr, usize)>, AllocError>
-        requires { Nests self.now.depth (F.pre self.now.deeper) (F.post self.now.deeper) }
-        ensures { IfOk result (λ r. r ≡ read.negated self.now.tokens.now (expr_at self.now.tokens.now self.now.depth) at) }
+        requires { Nests self.now.primaries.depth (F.pre self.now.primaries.deeper) (F.post self.now.primaries.deeper) }
+        ensures { IfOk result (λ r. r ≡ read.negated self.now.primaries.tokens.now (expr_at self.now.primaries.tokens.now self.now.primaries.depth) at) }
     {
-        let spot = spot_at(self.tokens, at);
-        let Some((_, at)) = keyword_at(self.tokens, word::NOT, at) else {
+        let spot = spot_at(self.primaries.tokens, at);
+        let Some((_, at)) = keyword_at(self.primaries.tokens, word::NOT, at) else {
             return Ok(None);
         };
-        let Some((operand, end)) = self.deeper_at(Part::Negated, at)? else {
+        let Some((operand, end)) = self.primaries.deeper_at(Part::Negated, at)? else {
             return Ok(None);
         };
-        let node = ExprNode::Not(Boxed::new(self.alloc, operand)?);
+        let node = ExprNode::Not(Boxed::new(self.primaries.alloc, operand)?);
         Ok(Some((Expr { spot, node }, end)))
     }
 
-    #[tactic(auto, unfolding(crate::specs::Reading::negation))]
+    #[tactic(auto, unfolding(primary_parser::specs::Reading::negation))]
     pub(crate) fn negation(&self, at: usize) -> Result<Option<(Expr, usize)>, AllocError>
-        requires { Nests self.now.depth (F.pre self.now.deeper) (F.post self.now.deeper) }
-        ensures { IfOk result (λ r. r ≡ read.negation self.now.tokens.now (expr_at self.now.tokens.now self.now.depth) at) }
+        requires { Nests self.now.primaries.depth (F.pre self.now.primaries.deeper) (F.post self.now.primaries.deeper) }
+        ensures { IfOk result (λ r. r ≡ read.negation self.now.primaries.tokens.now (expr_at self.now.primaries.tokens.now self.now.primaries.depth) at) }
     {
         if let Some((expr, end)) = self.negated(at)? {
             return Ok(Some((expr, end)));
@@ -125,10 +127,10 @@ impl<
 
     #[tactic(auto, unfolding(grammar_forms::specs::Reader::behind))]
     fn next_and(&self, at: usize) -> Result<Option<(Expr, usize)>, AllocError>
-        requires { Nests self.now.depth (F.pre self.now.deeper) (F.post self.now.deeper) }
-        ensures { IfOk result (λ r. r ≡ behind (row_of self.now.tokens.now) word.and_word (read.negation self.now.tokens.now (expr_at self.now.tokens.now self.now.depth)) at) }
+        requires { Nests self.now.primaries.depth (F.pre self.now.primaries.deeper) (F.post self.now.primaries.deeper) }
+        ensures { IfOk result (λ r. r ≡ behind (row_of self.now.primaries.tokens.now) word.and_word (read.negation self.now.primaries.tokens.now (expr_at self.now.primaries.tokens.now self.now.primaries.depth)) at) }
     {
-        let Some((_, at)) = keyword_at(self.tokens, word::AND, at) else {
+        let Some((_, at)) = keyword_at(self.primaries.tokens, word::AND, at) else {
             return Ok(None);
         };
         self.negation(at)
@@ -136,12 +138,12 @@ impl<
 
     #[tactic(auto, using(grammar_forms::proofs::Turns::turns))]
     fn more_and(&self, from: usize) -> Result<(Exprs, usize), AllocError>
-        requires { Nests self.now.depth (F.pre self.now.deeper) (F.post self.now.deeper) }
-        ensures { IfOk result (λ r. r ≡ many (behind (row_of self.now.tokens.now) word.and_word (read.negation self.now.tokens.now (expr_at self.now.tokens.now self.now.depth))) (length self.now.tokens.now - from) from []) }
+        requires { Nests self.now.primaries.depth (F.pre self.now.primaries.deeper) (F.post self.now.primaries.deeper) }
+        ensures { IfOk result (λ r. r ≡ many (behind (row_of self.now.primaries.tokens.now) word.and_word (read.negation self.now.primaries.tokens.now (expr_at self.now.primaries.tokens.now self.now.primaries.depth))) (length self.now.primaries.tokens.now - from) from []) }
     {
-        let mut found = List::new(self.alloc);
+        let mut found = List::new(self.primaries.alloc);
         let mut at = from;
-        'items: for _turn in from..self.tokens.len() {
+        'items: for _turn in from..self.primaries.tokens.len() {
             let Some((item, next)) = self.next_and(at)? else {
                 return Ok((found, at));
             };
@@ -151,25 +153,25 @@ impl<
         Ok((found, at))
     }
 
-    #[tactic(auto, unfolding(crate::specs::Reading::conjunction, crate::specs::Reader::joined))]
+    #[tactic(auto, unfolding(primary_parser::specs::Reading::conjunction, primary_parser::specs::Reader::joined))]
     pub(crate) fn conjunction(&self, at: usize) -> Result<Option<(Expr, usize)>, AllocError>
-        requires { Nests self.now.depth (F.pre self.now.deeper) (F.post self.now.deeper) }
-        ensures { IfOk result (λ r. r ≡ read.conjunction self.now.tokens.now (expr_at self.now.tokens.now self.now.depth) at) }
+        requires { Nests self.now.primaries.depth (F.pre self.now.primaries.deeper) (F.post self.now.primaries.deeper) }
+        ensures { IfOk result (λ r. r ≡ read.conjunction self.now.primaries.tokens.now (expr_at self.now.primaries.tokens.now self.now.primaries.depth) at) }
     {
-        let spot = spot_at(self.tokens, at);
+        let spot = spot_at(self.primaries.tokens, at);
         let Some((first, at)) = self.negation(at)? else {
             return Ok(None);
         };
         let (rest, end) = self.more_and(at)?;
-        Ok(Some((and_of(self.alloc, spot, first, rest)?, end)))
+        Ok(Some((and_of(self.primaries.alloc, spot, first, rest)?, end)))
     }
 
     #[tactic(auto, unfolding(grammar_forms::specs::Reader::behind))]
     fn next_xor(&self, at: usize) -> Result<Option<(Expr, usize)>, AllocError>
-        requires { Nests self.now.depth (F.pre self.now.deeper) (F.post self.now.deeper) }
-        ensures { IfOk result (λ r. r ≡ behind (row_of self.now.tokens.now) word.xor_word (read.conjunction self.now.tokens.now (expr_at self.now.tokens.now self.now.depth)) at) }
+        requires { Nests self.now.primaries.depth (F.pre self.now.primaries.deeper) (F.post self.now.primaries.deeper) }
+        ensures { IfOk result (λ r. r ≡ behind (row_of self.now.primaries.tokens.now) word.xor_word (read.conjunction self.now.primaries.tokens.now (expr_at self.now.primaries.tokens.now self.now.primaries.depth)) at) }
     {
-        let Some((_, at)) = keyword_at(self.tokens, word::XOR, at) else {
+        let Some((_, at)) = keyword_at(self.primaries.tokens, word::XOR, at) else {
             return Ok(None);
         };
         self.conjunction(at)
@@ -177,12 +179,12 @@ impl<
 
     #[tactic(auto, using(grammar_forms::proofs::Turns::turns))]
     fn more_xor(&self, from: usize) -> Result<(Exprs, usize), AllocError>
-        requires { Nests self.now.depth (F.pre self.now.deeper) (F.post self.now.deeper) }
-        ensures { IfOk result (λ r. r ≡ many (behind (row_of self.now.tokens.now) word.xor_word (read.conjunction self.now.tokens.now (expr_at self.now.tokens.now self.now.depth))) (length self.now.tokens.now - from) from []) }
+        requires { Nests self.now.primaries.depth (F.pre self.now.primaries.deeper) (F.post self.now.primaries.deeper) }
+        ensures { IfOk result (λ r. r ≡ many (behind (row_of self.now.primaries.tokens.now) word.xor_word (read.conjunction self.now.primaries.tokens.now (expr_at self.now.primaries.tokens.now self.now.primaries.depth))) (length self.now.primaries.tokens.now - from) from []) }
     {
-        let mut found = List::new(self.alloc);
+        let mut found = List::new(self.primaries.alloc);
         let mut at = from;
-        'items: for _turn in from..self.tokens.len() {
+        'items: for _turn in from..self.primaries.tokens.len() {
             let Some((item, next)) = self.next_xor(at)? else {
                 return Ok((found, at));
             };
@@ -192,25 +194,25 @@ impl<
         Ok((found, at))
     }
 
-    #[tactic(auto, unfolding(crate::specs::Reading::exclusive, crate::specs::Reader::joined))]
+    #[tactic(auto, unfolding(primary_parser::specs::Reading::exclusive, primary_parser::specs::Reader::joined))]
     pub(crate) fn exclusive(&self, at: usize) -> Result<Option<(Expr, usize)>, AllocError>
-        requires { Nests self.now.depth (F.pre self.now.deeper) (F.post self.now.deeper) }
-        ensures { IfOk result (λ r. r ≡ read.exclusive self.now.tokens.now (expr_at self.now.tokens.now self.now.depth) at) }
+        requires { Nests self.now.primaries.depth (F.pre self.now.primaries.deeper) (F.post self.now.primaries.deeper) }
+        ensures { IfOk result (λ r. r ≡ read.exclusive self.now.primaries.tokens.now (expr_at self.now.primaries.tokens.now self.now.primaries.depth) at) }
     {
-        let spot = spot_at(self.tokens, at);
+        let spot = spot_at(self.primaries.tokens, at);
         let Some((first, at)) = self.conjunction(at)? else {
             return Ok(None);
         };
         let (rest, end) = self.more_xor(at)?;
-        Ok(Some((xor_of(self.alloc, spot, first, rest)?, end)))
+        Ok(Some((xor_of(self.primaries.alloc, spot, first, rest)?, end)))
     }
 
     #[tactic(auto, unfolding(grammar_forms::specs::Reader::behind))]
     fn next_or(&self, at: usize) -> Result<Option<(Expr, usize)>, AllocError>
-        requires { Nests self.now.depth (F.pre self.now.deeper) (F.post self.now.deeper) }
-        ensures { IfOk result (λ r. r ≡ behind (row_of self.now.tokens.now) word.or_word (read.exclusive self.now.tokens.now (expr_at self.now.tokens.now self.now.depth)) at) }
+        requires { Nests self.now.primaries.depth (F.pre self.now.primaries.deeper) (F.post self.now.primaries.deeper) }
+        ensures { IfOk result (λ r. r ≡ behind (row_of self.now.primaries.tokens.now) word.or_word (read.exclusive self.now.primaries.tokens.now (expr_at self.now.primaries.tokens.now self.now.primaries.depth)) at) }
     {
-        let Some((_, at)) = keyword_at(self.tokens, word::OR, at) else {
+        let Some((_, at)) = keyword_at(self.primaries.tokens, word::OR, at) else {
             return Ok(None);
         };
         self.exclusive(at)
@@ -218,12 +220,12 @@ impl<
 
     #[tactic(auto, using(grammar_forms::proofs::Turns::turns))]
     fn more_or(&self, from: usize) -> Result<(Exprs, usize), AllocError>
-        requires { Nests self.now.depth (F.pre self.now.deeper) (F.post self.now.deeper) }
-        ensures { IfOk result (λ r. r ≡ many (behind (row_of self.now.tokens.now) word.or_word (read.exclusive self.now.tokens.now (expr_at self.now.tokens.now self.now.depth))) (length self.now.tokens.now - from) from []) }
+        requires { Nests self.now.primaries.depth (F.pre self.now.primaries.deeper) (F.post self.now.primaries.deeper) }
+        ensures { IfOk result (λ r. r ≡ many (behind (row_of self.now.primaries.tokens.now) word.or_word (read.exclusive self.now.primaries.tokens.now (expr_at self.now.primaries.tokens.now self.now.primaries.depth))) (length self.now.primaries.tokens.now - from) from []) }
     {
-        let mut found = List::new(self.alloc);
+        let mut found = List::new(self.primaries.alloc);
         let mut at = from;
-        'items: for _turn in from..self.tokens.len() {
+        'items: for _turn in from..self.primaries.tokens.len() {
             let Some((item, next)) = self.next_or(at)? else {
                 return Ok((found, at));
             };
@@ -233,22 +235,22 @@ impl<
         Ok((found, at))
     }
 
-    #[tactic(auto, unfolding(crate::specs::Reading::whole, crate::specs::Reader::joined))]
+    #[tactic(auto, unfolding(primary_parser::specs::Reading::whole, primary_parser::specs::Reader::joined))]
     pub(crate) fn whole(&self, at: usize) -> Result<Option<(Expr, usize)>, AllocError>
-        requires { Nests self.now.depth (F.pre self.now.deeper) (F.post self.now.deeper) }
-        ensures { IfOk result (λ r. r ≡ read.whole self.now.tokens.now (expr_at self.now.tokens.now self.now.depth) at) }
+        requires { Nests self.now.primaries.depth (F.pre self.now.primaries.deeper) (F.post self.now.primaries.deeper) }
+        ensures { IfOk result (λ r. r ≡ read.whole self.now.primaries.tokens.now (expr_at self.now.primaries.tokens.now self.now.primaries.depth) at) }
     {
-        let spot = spot_at(self.tokens, at);
+        let spot = spot_at(self.primaries.tokens, at);
         let Some((first, at)) = self.exclusive(at)? else {
             return Ok(None);
         };
         let (rest, end) = self.more_or(at)?;
-        Ok(Some((or_of(self.alloc, spot, first, rest)?, end)))
+        Ok(Some((or_of(self.primaries.alloc, spot, first, rest)?, end)))
     }
 
     pub(crate) fn part(&self, part: Part, at: usize) -> Result<Option<(Expr, usize)>, AllocError>
-        requires { Nests self.now.depth (F.pre self.now.deeper) (F.post self.now.deeper) }
-        ensures { IfOk result (λ r. r ≡ read.part_of self.now.tokens.now (expr_at self.now.tokens.now self.now.depth) part at) }
+        requires { Nests self.now.primaries.depth (F.pre self.now.primaries.deeper) (F.post self.now.primaries.deeper) }
+        ensures { IfOk result (λ r. r ≡ read.part_of self.now.primaries.tokens.now (expr_at self.now.primaries.tokens.now self.now.primaries.depth) part at) }
     {
         match part {
             Part::Whole => self.whole(at),

@@ -1,15 +1,15 @@
 //! Operators.
 
 ghost use Rattle.std.specs.Prelude.{◌≡◌};
-ghost use Rattle.expr_parser.specs.Reading as read;
+ghost use Rattle.primary_parser.specs.Reading as read;
 
-use crate::token::sign_at;
-use crate::word;
 use epl_lexer::Token;
 use epl_tree::{Comparison, Operator};
+use primary_parser::token::sign_at;
+use primary_parser::word;
 
 /// An operator that compares, and the place behind it.
-#[tactic(auto, unfolding(crate::specs::Reading::compared_by))]
+#[tactic(auto, unfolding(primary_parser::specs::Reading::compared_by))]
 pub fn comparison_at(tokens: &[Token], at: usize) -> Option<(Comparison, usize)>
     ensures { result ≡ read.compared_by tokens.now at }
 {
@@ -35,7 +35,7 @@ pub fn comparison_at(tokens: &[Token], at: usize) -> Option<(Comparison, usize)>
 }
 
 /// A `+` or `-`, and the place behind it.
-#[tactic(auto, unfolding(crate::specs::Reading::additive))]
+#[tactic(auto, unfolding(primary_parser::specs::Reading::additive))]
 pub fn additive_at(tokens: &[Token], at: usize) -> Option<(Operator, usize)>
     ensures { result ≡ read.additive tokens.now at }
 {
@@ -49,7 +49,7 @@ pub fn additive_at(tokens: &[Token], at: usize) -> Option<(Operator, usize)>
 }
 
 /// A `*`, `/` or `%`, and the place behind it.
-#[tactic(auto, unfolding(crate::specs::Reading::multiplicative))]
+#[tactic(auto, unfolding(primary_parser::specs::Reading::multiplicative))]
 pub fn multiplicative_at(tokens: &[Token], at: usize) -> Option<(Operator, usize)>
     ensures { result ≡ read.multiplicative tokens.now at }
 {

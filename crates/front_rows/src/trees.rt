@@ -7,8 +7,10 @@ use crate::tokens::{no_tokens, read_tokens};
 use crate::type_outline::put_type;
 use anyhow::{Result, bail};
 use epl_lexer::Token;
-use epl_syntax::{ParseFault, event_expression, expression};
-use epl_tree::{EventExpr, Expr};
+use epl_syntax::{
+    ParseFault, discard_event, discard_expression, discard_type, event_expression, expression,
+};
+use epl_tree::{EventExpr, Expr, TypeExpr};
 use event_parser::{EventPart, event_at};
 use expr_parser::{MAX_DEPTH, Part, expr_at, type_at};
 use span_text::Spot;
@@ -25,12 +27,12 @@ pub fn whole_told(alloc: Global, question: &str, bytes: &[u8], long: bool) -> Re
     }
     if question == "event" {
         return match event_expression(alloc, &tokens, 0) {
-            Ok((tree, end)) => event_told(alloc, &tree, end, long),
+            Ok((tree, end)) => event_read(alloc, tree, end, long),
             Err(fault) => no_tree(alloc, fault),
         };
     }
     match expression(alloc, &tokens, 0) {
-        Ok((tree, end)) => expr_told(alloc, &tree, end, long),
+        Ok((tree, end)) => expr_read(alloc, tree, end, long),
         Err(fault) => no_tree(alloc, fault),
     }
 }
@@ -70,26 +72,34 @@ fn no_tree(alloc: Global, fault: ParseFault) -> Result<String> {
 }
 
 fn type_told(alloc: Global, tokens: &[Token]) -> Result<String> {
-    let Some((tree, end)) = type_at(alloc, tokens, MAX_DEPTH, 0)? else {
-        return Ok(String::from_str(alloc, "= none\n")?);
-    };
+    match type_at(alloc, tokens, MAX_DEPTH, 0)? {
+        Some((tree, end)) => {
+            let told = type_outlined(alloc, &tree, end);
+            discard_type(tree);
+            told
+        }
+        None => Ok(String::from_str(alloc, "= none\n")?),
+    }
+}
+
+fn type_outlined(alloc: Global, tree: &TypeExpr, end: usize) -> Result<String> {
     let mut out = placed(alloc, tree.spot, end)?;
     out.push_str(": ")?;
-    put_type(&mut out, &tree)?;
+    put_type(&mut out, tree)?;
     out.push_str("\n")?;
     Ok(out)
 }
 
 fn expr_part_told(alloc: Global, part: Part, depth: u32, tokens: &[Token]) -> Result<String> {
     match expr_at(alloc, tokens, depth as usize, part, 0)? {
-        Some((tree, end)) => expr_told(alloc, &tree, end, false),
+        Some((tree, end)) => expr_read(alloc, tree, end, false),
         None => Ok(String::from_str(alloc, "= none\n")?),
     }
 }
 
 fn event_part_told(alloc: Global, part: EventPart, depth: u32, tokens: &[Token]) -> Result<String> {
     match event_at(alloc, tokens, depth as usize, part, 0)? {
-        Some((tree, end)) => event_told(alloc, &tree, end, false),
+        Some((tree, end)) => event_read(alloc, tree, end, false),
         None => Ok(String::from_str(alloc, "= none\n")?),
     }
 }
@@ -100,6 +110,20 @@ fn placed(alloc: Global, spot: Spot, end: usize) -> Result<String> {
     put_spot(&mut out, "= at ", spot)?;
     put_number(&mut out, ", end ", end)?;
     Ok(out)
+}
+
+/// What an expression is told as, which is let go.
+fn expr_read(alloc: Global, tree: Expr, end: usize, long: bool) -> Result<String> {
+    let told = expr_told(alloc, &tree, end, long);
+    discard_expression(tree);
+    told
+}
+
+/// What an event expression is told as, which is let go.
+fn event_read(alloc: Global, tree: EventExpr, end: usize, long: bool) -> Result<String> {
+    let told = event_told(alloc, &tree, end, long);
+    discard_event(tree);
+    told
 }
 
 fn expr_told(alloc: Global, tree: &Expr, end: usize, long: bool) -> Result<String> {

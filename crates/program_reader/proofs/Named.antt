@@ -10,14 +10,14 @@ use Rattle.epl_lexer.specs.declared.token.Token.{Token}
 use Rattle.epl_lexer.specs.Bytes.{from_on, digits, letters, word_bytes}
 use Rattle.epl_lexer.specs.Spelling.{Spells}
 use Rattle.epl_lexer.specs.Tokens.{start_of, Lexes, end_token, AreTokens}
-use Rattle.expr_parser.specs.Tokens.{kind_at}
+use Rattle.primary_parser.specs.Tokens.{kind_at}
 use Rattle.epl_tree.specs.declared.name.Name.{Name as TreeName}
 use Rattle.epl_tree.specs.declared.unit.Declaration.{Declaration}
 use Rattle.epl_tree.specs.declared.unit.Declaration.TheVariants as declaration
 use Rattle.epl_tree.specs.declared.unit.EventDecl.{EventDecl}
 use Rattle.epl_tree.specs.declared.unit.Unit.{Unit as Tree}
 use Rattle.grammar_forms.specs.Rule.{Many}
-use Rattle.decl_parser.specs.Statements.{IsName as IsNameForm}
+use Rattle.command_parser.specs.Commands.{IsName as IsNameForm}
 use Rattle.decl_parser.specs.Units.{IsEventDecl, IsDeclaration, IsUnit}
 use Rattle.type_table.specs.Kinds.{declarations_of}
 use Rattle.epl_syntax.specs.Trees.{AreTrees}

@@ -1,7 +1,7 @@
 use Rattle.std.proofs.Common.{◌≡◌, ◌-◌, [], length}
 use Rattle.grammar_forms.specs.Reader.{behind, many}
-use Rattle.expr_parser.specs.Tokens.{row_of}
-use Rattle.expr_parser.specs.Words.{comma}
+use Rattle.primary_parser.specs.Tokens.{row_of}
+use Rattle.primary_parser.specs.Words.{comma}
 use Rattle.decl_parser.specs.Declaring.{param}
 use Rattle.decl_parser.proofs.action.more_params.Given as goal
 

@@ -1,6 +1,6 @@
 use Rattle.std.proofs.Common.{◌≡◌, ◌-◌, [], length}
 use Rattle.grammar_forms.specs.Reader.{many}
-use Rattle.decl_parser.specs.Reading.{stmt_at}
+use Rattle.stmt_parser.specs.Reading.{stmt_at}
 use Rattle.decl_parser.proofs.action.statements.Given as goal
 
 abbrev pub invariant-items : goal.invariant-items

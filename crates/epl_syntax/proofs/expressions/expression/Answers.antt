@@ -1,7 +1,7 @@
 use Rattle.std.proofs.Common.{◌≡◌, Some, sym, ap, ◌∙◌}
 use Rattle.grammar_forms.proofs.Longest.{reads_longest}
-use Rattle.expr_parser.specs.declared.part.Part.TheVariants.{Whole}
-use Rattle.expr_parser.specs.Reading.{expr_at}
+use Rattle.primary_parser.specs.declared.part.Part.TheVariants.{Whole}
+use Rattle.primary_parser.specs.Reading.{expr_at}
 use Rattle.expr_parser.proofs.Laws.{good_expr_alone}
 use Rattle.epl_syntax.proofs.expressions.expression.Goals as goal
 

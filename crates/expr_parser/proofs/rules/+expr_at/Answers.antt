@@ -1,6 +1,6 @@
 use Rattle.std.proofs.Common.{arith}
 use Rattle.grammar_forms.proofs.Turns.{deeper}
-use Rattle.expr_parser.specs.Reading.{expr_at}
+use Rattle.primary_parser.specs.Reading.{expr_at}
 use Rattle.expr_parser.proofs.rules.+expr_at.Goals as goal
 
 pub returns : goal.returns

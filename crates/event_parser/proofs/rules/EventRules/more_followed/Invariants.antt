@@ -1,7 +1,7 @@
 use Rattle.std.proofs.Common.{◌≡◌, ◌-◌, [], length}
 use Rattle.grammar_forms.specs.Reader.{behind, many}
-use Rattle.expr_parser.specs.Tokens.{row_of}
-use Rattle.event_parser.specs.Words.{arrow}
+use Rattle.primary_parser.specs.Tokens.{row_of}
+use Rattle.template_parser.specs.Words.{arrow}
 use Rattle.event_parser.specs.Reading.{disjunction, event_at}
 use Rattle.event_parser.proofs.rules.EventRules.more_followed.Given as goal
 

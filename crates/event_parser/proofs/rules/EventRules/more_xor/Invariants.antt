@@ -1,7 +1,7 @@
 use Rattle.std.proofs.Common.{◌≡◌, ◌-◌, [], length}
 use Rattle.grammar_forms.specs.Reader.{behind, many}
-use Rattle.expr_parser.specs.Tokens.{row_of}
-use Rattle.expr_parser.specs.Words.{xor_word}
+use Rattle.primary_parser.specs.Tokens.{row_of}
+use Rattle.primary_parser.specs.Words.{xor_word}
 use Rattle.event_parser.specs.Reading.{conjunction, event_at}
 use Rattle.event_parser.proofs.rules.EventRules.more_xor.Given as goal
 

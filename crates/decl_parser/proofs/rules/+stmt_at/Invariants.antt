@@ -1,4 +1,0 @@
-use Rattle.decl_parser.proofs.rules.+stmt_at.Given as goal
-
-abbrev pub decreases-stmt_at : goal.decreases-stmt_at
-decreases-stmt_at l = l.depth

@@ -1,0 +1,4 @@
+pub mod Events
+pub mod Statements
+pub mod Reading
+pub mod Nests

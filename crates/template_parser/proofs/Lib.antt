@@ -1,0 +1,4 @@
+pub mod Continued
+pub mod Unless
+pub mod ConstraintLaws
+pub mod TemplateLaws
