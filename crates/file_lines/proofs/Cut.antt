@@ -7,7 +7,7 @@ use Rattle.std.proofs.lemmas.List.{drop_all, take_rest}
 use Rattle.std.proofs.lemmas.List.Splits.{slice_split_first, slice_split_none, length-slice_split}
 use Rattle.std.proofs.lemmas.List.Sums.{fails_before_first}
 use Rattle.file_lines.specs.Lines.{TakesOff}
--- A file cut into its first line and the rest.
+
 parts-front : (x : List ℕ) (parts : List (List ℕ)) → 0 < length parts → lines_of_parts (x ∷ parts) ≡ strip_carriage_return x ∷ lines_of_parts parts
 parts-front x [] l = absurd (omega arith)
 parts-front x (y ∷ more) l = refl

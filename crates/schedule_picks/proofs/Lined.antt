@@ -21,7 +21,7 @@ pub record IsRead (contexts : ℕ) (bytes rest : List ℕ) (number : ℕ) (picks
   pub size : number + length rest ≤ length bytes
 
 pub reads_nothing : (contexts : ℕ) (bytes rest : List ℕ) → rest ≡ without_mark bytes → length rest ≤ length bytes → IsRead contexts bytes rest 0 []
-reads_nothing contexts bytes rest e within = record { done = []; cut = ap lines (sym e); right = ([], refl, refl); count = refl; size = within }
+reads_nothing contexts bytes rest e within = record { done = []; cut = ap lines (sym e); right = ([], refl, refl); count = refl; size = omega arith }
 
 flat-then : (meant : List (Option Pick)) (m : Option Pick) → flat_map option_to_list (meant ++ m ∷ []) ≡ flat_map option_to_list meant ++ option_to_list m
 flat-then [] m = append-nil (option_to_list m)

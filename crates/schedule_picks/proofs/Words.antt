@@ -24,17 +24,17 @@ past_first bs some h = go (position_or_len is_blank bs) refl
     go (suc n) e = omega arith
 
 -- a text without blanks is one word
-pub one_word : (text : List ℕ) (end : ℕ) → end ≡ position_or_len is_blank text → end ≡ length text → 0 < length text → words_of text ≡ text ∷ words_of (take (length text - end) (drop end text))
+pub one_word : (text : List ℕ) (end : ℕ) → end ≡ position_or_len is_blank text → end ≡ length text → (length text ≡ 0 → ⊥) → words_of text ≡ text ∷ words_of (take (length text - end) (drop end text))
 one_word text end is whole some =
-    let alone : words_of text ≡ text ∷ [] = ap (filter is_word) (slice_split_none is_blank text (λ k d lt. fails_before_first is_blank text k d (omega arith))) ∙ word_first text [] some in
+    let alone : words_of text ≡ text ∷ [] = ap (filter is_word) (slice_split_none is_blank text (λ k d lt. fails_before_first is_blank text k d (omega arith))) ∙ word_first text [] (omega arith) in
     let rest : take (length text - end) (drop end text) ≡ [] = take_rest text end ∙ ap (λ n. drop n text) whole ∙ drop_all (length text) text (omega arith) in
     alone ∙ ap (λ r. text ∷ words_of r) (sym rest)
 
 -- the first word ends at the first blank
-pub cut_word : (text : List ℕ) (end : ℕ) → end ≡ position_or_len is_blank text → end ≤ length text → (end ≡ length text → ⊥) → 0 < length text → is_blank (get_or text 0 0) ≡ false
+pub cut_word : (text : List ℕ) (end : ℕ) → end ≡ position_or_len is_blank text → end ≤ length text → (end ≡ length text → ⊥) → (length text ≡ 0 → ⊥) → (0 < length text → is_blank (get_or text 0 0) ≡ false)
     → words_of text ≡ take end text ∷ words_of (take (length text - (end + 1)) (drop (end + 1) text))
 cut_word text end is within apart some first =
     let lt : position_or_len is_blank text < length text = omega (arith, is) in
-    let more : 0 < length (before_first is_blank text) = let past = past_first text some first in omega (arith, past, length-take-le (position_or_len is_blank text) text (omega arith)) in
+    let more : 0 < length (before_first is_blank text) = let there : 0 < length text = omega arith in let past = past_first text there (first there) in omega (arith, past, length-take-le (position_or_len is_blank text) text (omega arith)) in
     rw (take_rest text (end + 1), is)
       (ap (filter is_word) (slice_split_first is_blank text 0 lt) ∙ word_first (before_first is_blank text) (slice_split is_blank (after_first is_blank text)) more)

@@ -6,7 +6,7 @@ ghost use Rattle.schedule_picks.specs.Steps.{Parts};
 use crate::numbers::number_in;
 
 /// Whose turn it is: the actor that handles an entry, and, if a sender is named, the sender of that entry.
-#[derive(Clone, Copy, Debug, PartialEq, Eq)]
+#[derive(Clone, Copy)]
 pub struct Pick {
     pub actor: u8,
     pub sender: Option<u8>,
@@ -59,7 +59,7 @@ fn next_word(text: &[u8]) -> Option<(&[u8], &[u8])>
     Some((&words[..end], &words[end + 1..]))
 }
 
-/// What a line picks, where numbers are at most `contexts`: nothing where it is blank. No answer where it isn't in its form.
+/// What a line picks, with numbers up to that of the contexts: nothing where it is blank. No answer where it isn't in its form.
 pub fn pick_in(contexts: u8, line: &[u8]) -> Option<Option<Pick>>
     ensures { result ≡ pick_in contexts line.now }
 {

@@ -36,7 +36,7 @@ fn take_line(
 /// event files do, and a byte order mark in front is passed over.
 pub fn picks(alloc: Global, bytes: &[u8], contexts: u8) -> Result<Picks, PicksFault>
     requires size { length bytes.now < 4294967295 }
-    ensures gives { GivesPicks contexts bytes.now result }
+    ensures { GivesPicks contexts bytes.now result }
 {
     let mut lines = FileLines {
         rest: without_mark(bytes),
