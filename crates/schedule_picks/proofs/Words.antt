@@ -1,5 +1,5 @@
 -- Words between blanks.
-use Rattle.std.proofs.Common.{◌≡◌, ℕ, ◌+◌, ◌-◌, ◌<◌, ◌≤◌, ◌∷◌, zero, suc, List, [], length, take, drop, cond, true, false, Bool, refl, sym, ◌∙◌, ap, subst, arith, get_or}
+use Rattle.std.proofs.Common.{◌≡◌, ℕ, ◌+◌, ◌-◌, ◌<◌, ◌≤◌, ◌∷◌, zero, suc, List, [], length, take, drop, cond, true, false, refl, sym, ◌∙◌, ap, subst, arith, get_or}
 use Rattle.std.specs.List.{filter, position_or_len, slice_split, before_first, after_first, onto_first}
 use Rattle.std.proofs.lemmas.List.{drop_all, take_rest, length-take-le}
 use Rattle.std.proofs.lemmas.List.Splits.{slice_split_first, slice_split_none}
@@ -37,4 +37,4 @@ cut_word text end is within apart some first =
     let lt : position_or_len is_blank text < length text = omega (arith, is) in
     let more : 0 < length (before_first is_blank text) = let there : 0 < length text = omega arith in let past = past_first text there (first there) in omega (arith, past, length-take-le (position_or_len is_blank text) text (omega arith)) in
     rw (take_rest text (end + 1), is)
-      (ap (filter is_word) (slice_split_first is_blank text 0 lt) ∙ word_first (before_first is_blank text) (slice_split is_blank (after_first is_blank text)) more)
+    (ap (filter is_word) (slice_split_first is_blank text 0 lt) ∙ word_first (before_first is_blank text) (slice_split is_blank (after_first is_blank text)) more)

@@ -1,6 +1,6 @@
 -- Schedule files: what their lines pick.
-use Rattle.std.specs.Prelude.{◌≡◌, ℕ, ◌+◌, ◌<◌, ◌≤◌, ◌++◌, List, [], ◌∷◌, length, map, Bool, true, false, not, ◌||◌, ◌==◌, Option, Some, None, Result, Ok, Err, slice_index}
-use Rattle.std.specs.List.{filter, flat_map, list_all, slice_split}
+use Rattle.std.specs.Prelude.{◌≡◌, ℕ, ◌+◌, ◌++◌, List, [], ◌∷◌, length, map, Bool, true, false, ◌||◌, ◌==◌, Option, Some, None, Result, Ok, Err}
+use Rattle.std.specs.List.{filter, flat_map, slice_split}
 use Rattle.std.specs.Option.{option_to_list}
 use Rattle.file_lines.specs.Lines.{lines_of}
 use Rattle.schedule_picks.specs.Numbers.{number_in}

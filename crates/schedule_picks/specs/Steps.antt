@@ -1,5 +1,5 @@
 -- What the steps of reading a schedule file give.
-use Rattle.std.specs.Prelude.{◌≡◌, ◌<◌, ◌⊎◌, ℕ, ◌++◌, List, [], length, false, Option, Some, None, Result, Ok, Err, get_or}
+use Rattle.std.specs.Prelude.{◌≡◌, ◌<◌, ℕ, ◌++◌, List, length, false, Option, Some, None, Result, Ok, Err, get_or}
 use Rattle.std.specs.Option.{option_to_list}
 use Rattle.schedule_picks.specs.Picks.{is_blank, words_of, pick_in}
 use Rattle.schedule_picks.specs.declared.line.Pick.{Pick}

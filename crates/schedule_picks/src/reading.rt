@@ -13,12 +13,7 @@ use std::alloc::Global;
 /// Picks in their order.
 pub type Picks = List<Pick>;
 
-fn take_line(
-    contexts: u8,
-    line: &[u8],
-    number: u32,
-    given: &mut Picks,
-) -> Result<(), PicksFault>
+fn take_line(contexts: u8, line: &[u8], number: u32, given: &mut Picks) -> Result<(), PicksFault>
     ensures { TakesLine contexts line.now number given.old given.new result }
 {
     match pick_in(contexts, line) {

@@ -13,4 +13,4 @@ pub returns : goal.returns
 returns c =
     c.behind_blanks-words.ensures.words
     ∙ cut_word c.behind_blanks-words.result.now c.word_len-end.result c.word_len-end.ensures.count c.word_len-end.ensures.within c.if-end-words.false
-        (eqb-false _ _ (sym c.is_empty.ensures ∙ c.if-is_empty.false)) c.behind_blanks-words.ensures.begins
+    (eqb-false _ _ (sym c.is_empty.ensures ∙ c.if-is_empty.false)) c.behind_blanks-words.ensures.begins

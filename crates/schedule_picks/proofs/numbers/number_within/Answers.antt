@@ -6,4 +6,4 @@ use Rattle.schedule_picks.proofs.numbers.number_within.Goals as goal
 pub returns-then-number-from : goal.returns-then-number-from
 returns-then-number-from c =
     beyond c.args.word.now c.digits.byte-index c.digits.number (10 * c.digits.number + c.from.result) c.args.most (search rules)
-      (subst (λ most. most < 10 * c.digits.number + c.from.result) c.from-in-digits.ensures c.if-number-from.true) (search rules) c.digits.invariant.0
+    (subst (λ most. most < 10 * c.digits.number + c.from.result) c.from-in-digits.ensures c.if-number-from.true) (search rules) c.digits.invariant.0
