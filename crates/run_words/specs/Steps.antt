@@ -1,7 +1,7 @@
 -- What the steps of reading words give.
 use Rattle.std.specs.Prelude.{◌≡◌, ◌<◌, ◌≤◌, ℕ, List, ◌∷◌, length, Bool, if◌then◌else◌, Option, Some, None}
 use Rattle.record_book.specs.declared.record.Settings.{Settings}
-use Rattle.run_words.specs.Words.{Given, Named, Cut, cut, gives, no_options, flag_of, value_of}
+use Rattle.run_words.specs.Words.{Given, Named, cut, gives, no_options, flag_of, value_of}
 
 -- an option of this name, with this value
 abbrev pub given_of : List ℕ → Option (List ℕ) → Given

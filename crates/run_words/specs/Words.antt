@@ -1,7 +1,7 @@
 -- The words of a command line: `run`, options in any order, and the names of program files.
 use Rattle.std.specs.Prelude.{◌≡◌, ℕ, List, [], ◌∷◌, map, Bool, true, false, not, ◌&&◌, ◌||◌, ◌==◌, nat_le, length, if◌then◌else◌, Option, Some, None, Result, Ok, Err, codes}
 use Rattle.std.specs.List.{filter, list_all}
-use Rattle.std.specs.Option.{is_some, option_map}
+use Rattle.std.specs.Option.{is_some}
 use Rattle.std.specs.Str.{bytes_eq}
 use Rattle.record_book.specs.declared.record.Settings.{Settings}
 use Rattle.run_words.specs.Numbers.{number_in}
@@ -114,7 +114,7 @@ named_from serial schedule events settings programs = None
 abbrev pub named_by : Cut → Option Named
 named_by c =
     if list_all (λ g. is_known g.name) c.given then named_from (flag_of (values_of (codes "--serial") c.given)) (file_of (value_of (values_of (codes "--schedule") c.given)))
-      (file_of (value_of (values_of (codes "--events") c.given))) (settings_of c.given) (programs_of c.programs)
+    (file_of (value_of (values_of (codes "--events") c.given))) (settings_of c.given) (programs_of c.programs)
     else None
 
 -- run [--serial] [--schedule FILE] [--fuel N] [--contexts N] [--mailbox N] --events FILE PROGRAM...

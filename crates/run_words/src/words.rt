@@ -53,7 +53,7 @@ fn copy_names(alloc: Global, names: &[String]) -> Result<Texts, Memory>
 }
 
 fn copy_name(alloc: Global, name: Option<&str>) -> Result<Option<Text>, Memory>
-    ensures { IfOk result (λ text. text ≡ option_map (λ n. n.now) name) }
+    ensures { IfOk result (λ text. text ≡ option_map (λ n. n.now) name.entry) }
 {
     match name {
         None => Ok(None),

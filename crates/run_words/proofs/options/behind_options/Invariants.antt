@@ -1,4 +1,4 @@
-use Rattle.std.proofs.Common.{◌≡◌, length, map}
+use Rattle.std.proofs.Common.{length, map}
 use Rattle.std.specs.Prelude.{string_bytes}
 use Rattle.run_words.proofs.Cuts.{SameBehind}
 use Rattle.run_words.proofs.options.behind_options.Given as goal
