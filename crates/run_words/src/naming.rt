@@ -1,4 +1,4 @@
-ghost use Rattle.std.specs.Prelude.{◌≡◌, ◌≤◌, map, string_bytes, codes, IfSome};
+ghost use Rattle.std.specs.Prelude.{◌≡◌, ◌≤◌, length, map, string_bytes, codes, IfSome};
 ghost use Rattle.std.specs.List.{list_all};
 ghost use Rattle.std.specs.Option.{option_map};
 ghost use Rattle.run_words.specs.Words.{cut, file_of, is_file_word, named_by, named_in, number_of, programs_of, settings_of, value_of, values_of};
@@ -67,7 +67,8 @@ fn are_file_words(words: &[String]) -> bool
 }
 
 fn programs_of(words: &[String]) -> Option<&[String]>
-    ensures { option_map (λ programs. map string_bytes programs.now) result ≡ programs_of (map string_bytes words.now) }
+    ensures programs { option_map (λ programs. map string_bytes programs.now) result ≡ programs_of (map string_bytes words.now) }
+    ensures few { IfSome result (λ programs. length programs.now ≤ 64) }
 {
     if are_file_words(words) && (1 <= words.len() && words.len() <= 64) {
         Some(words)
@@ -79,6 +80,7 @@ fn programs_of(words: &[String]) -> Option<&[String]>
 fn named_by(words: &[String]) -> Option<Named<'_>>
     ensures named { option_map (λ n. named_as n.events.now (map string_bytes n.programs.now) n.settings n.serial (option_map (λ v. v.now) n.schedule)) result ≡ named_by (cut (map string_bytes words.now)) }
     ensures ranges { IfSome result (λ n. InRange n.settings) }
+    ensures few { IfSome result (λ n. length n.programs.now ≤ 64) }
 {
     let behind = behind_options(words)?;
     let serial = flag_of(words, "--serial")?;
@@ -102,6 +104,7 @@ fn named_by(words: &[String]) -> Option<Named<'_>>
 pub fn named_in(words: &[String]) -> Option<Named<'_>>
     ensures named { option_map (λ n. named_as n.events.now (map string_bytes n.programs.now) n.settings n.serial (option_map (λ v. v.now) n.schedule)) result ≡ named_in (map string_bytes words.now) }
     ensures ranges { IfSome result (λ n. InRange n.settings) }
+    ensures few { IfSome result (λ n. length n.programs.now ≤ 64) }
 {
     let [command, rest @ ..] = words else {
         return None;

@@ -1,4 +1,4 @@
-ghost use Rattle.std.specs.Prelude.{◌≡◌, ◌≤◌, map, string_bytes, IfOk};
+ghost use Rattle.std.specs.Prelude.{◌≡◌, ◌≤◌, length, map, string_bytes, IfOk};
 ghost use Rattle.std.specs.Option.{option_map};
 ghost use Rattle.run_words.specs.Words.{TellsWords};
 
@@ -43,7 +43,8 @@ impl From<Memory> for WordsFault {
 }
 
 fn copy_names(alloc: Global, names: &[String]) -> Result<Texts, Memory>
-    ensures { IfOk result (λ texts. texts ≡ map string_bytes names.now) }
+    ensures texts { IfOk result (λ texts. texts ≡ map string_bytes names.now) }
+    ensures count { IfOk result (λ texts. length texts ≡ length names.now) }
 {
     let mut texts = Texts::new(alloc);
     'names: for name in names {
@@ -64,6 +65,7 @@ fn copy_name(alloc: Global, name: Option<&str>) -> Result<Option<Text>, Memory>
 fn owned(alloc: Global, named: &Named<'_>) -> Result<RunWords, Memory>
     ensures events { IfOk result (λ w. w.events ≡ named.now.events.now) }
     ensures programs { IfOk result (λ w. w.programs ≡ map string_bytes named.now.programs.now) }
+    ensures count { IfOk result (λ w. length w.programs ≡ length named.now.programs.now) }
     ensures settings { IfOk result (λ w. w.settings ≡ named.now.settings) }
     ensures serial { IfOk result (λ w. w.serial ≡ named.now.serial) }
     ensures schedule { IfOk result (λ w. w.schedule ≡ option_map (λ n. n.now) named.now.schedule) }
@@ -91,6 +93,7 @@ pub fn read_words(alloc: Global, words: &[String]) -> Result<RunWords, WordsFaul
     ensures fuel { IfOk result (λ w. (1 ≤ w.settings.fuel) × (w.settings.fuel ≤ 20000000)) }
     ensures contexts { IfOk result (λ w. (1 ≤ w.settings.contexts) × (w.settings.contexts ≤ 32)) }
     ensures mailbox { IfOk result (λ w. (1 ≤ w.settings.mailbox) × (w.settings.mailbox ≤ 65536)) }
+    ensures few { IfOk result (λ w. length w.programs ≤ 64) }
 {
     let Some(named) = named_in(words) else {
         return Err(WordsFault::Usage);
